@@ -1,18 +1,28 @@
 """The classes of a folder of Java with their methods and fields, as far as it takes to follow a thread through them."""
 import dataclasses
 
+from java_forms import UNLOCK
 from java_outline import CLOSING, NAME, Outline, parameters_of
+from java_statements import code_of
 
 
 @dataclasses.dataclass
 class Body:
     """A method or constructor: its parameters, each with the class of its type where that is one name, the class of its
-    result, and where its block begins; whether a thread can't enter it, since it is not analysed."""
+    result, and where its block begins; whether a thread can't enter it, since it is not analysed; its code, once it was
+    asked for."""
 
     names: list
     result: str
     block: int
     is_closed: bool
+    made: list = None
+
+    def code(self, outline):
+        """Its code."""
+        if self.made is None:
+            self.made = code_of(outline, self.block)
+        return self.made
 
 
 class Class:
@@ -36,7 +46,8 @@ class Class:
         key = (name, found.parameters)
         result = self.name if name == "<new>" else simple_type(outline.tokens[opened - 2 : opened - 1])
         names = parameters_of(outline, opened)
-        self.methods[key] = Body(names, result, block, bool(found.forms) or key in self.methods)
+        is_closed = not {*found.forms} <= {UNLOCK} or key in self.methods
+        self.methods[key] = Body(names, result, block, is_closed)
 
     def add_fields(self, member, last):
         """Adds the fields that a member declares."""

@@ -6,13 +6,6 @@ CLOSING = {b"(": b")", b"[": b"]", b"{": b"}"}
 
 # Words that are such a form by themselves.
 WORDS = {
-    b"try": "try",
-    b"throw": "throw",
-    b"switch": "switch",
-    b"break": "break",
-    b"continue": "continue",
-    b"do": "do",
-    b"assert": "assert",
     b"super": "super",
     b"->": "lambda",
     b"::": "method reference",
@@ -20,8 +13,9 @@ WORDS = {
     b"interface": "local class",
 }
 # The order in which they are told.
-ORDER = ("try", "throw", "switch", "break", "continue", "do", "label", "assert", "lambda", "method reference",
-         "anonymous class", "local class", "super", "this(..)", "varargs", "type parameters", "native", "other")
+UNLOCK = "unlock in a finally"
+ORDER = (UNLOCK, "lambda", "method reference", "anonymous class", "local class", "super", "this(..)",
+         "varargs", "type parameters", "native", "other")
 
 
 def closed(tokens, i):
@@ -48,11 +42,12 @@ def has_anonymous(tokens):
     return False
 
 
-def has_label(tokens):
-    """Whether a statement has a label."""
-    for i in range(1, len(tokens) - 1):
-        if tokens[i] == b":" and tokens[i + 1] in (b"for", b"while", b"do", b"{"):
-            if NAME.fullmatch(tokens[i - 1]) and tokens[i - 2] in (b"{", b"}", b";"):
+def has_unlock(tokens):
+    """Whether a `finally` block unlocks something: where that is no lock field's, it is why a method is `outside`."""
+    for i, token in enumerate(tokens[:-1]):
+        if token == b"finally" and tokens[i + 1] == b"{":
+            inside = tokens[i + 2 : closed(tokens, i + 1)]
+            if any(inside[k : k + 3] == [b"unlock", b"(", b")"] for k in range(len(inside))):
                 return True
     return False
 
@@ -72,8 +67,8 @@ def forms_of(tokens, parameters, body, modifiers):
         found.add("anonymous class")
     if b"class" in inside and any(token == b"class" and inside[i - 1] != b"." for i, token in enumerate(inside)):
         found.add("local class")
-    if b":" in words and has_label(inside):
-        found.add("label")
+    if b"finally" in words and has_unlock(inside):
+        found.add(UNLOCK)
     if b"this" in words and stands(inside, b"this", b"("):
         found.add("this(..)")
     if tokens[:1] == [b"<"]:

@@ -8,9 +8,9 @@ import re
 
 from java_folder import simple_type
 from java_outline import CLOSING, NAME
+from java_statements import code_of, declared_name
 
 ASSIGNMENTS = set(b"= += -= *= /= %= &= |= ^=".split())
-TYPE_SIGNS = set(b". < > , ? [ ]".split())
 BINARY = set(b"== != < > <= >= + - * / % & | ^ instanceof".split())
 
 
@@ -22,7 +22,7 @@ def begins(token):
 @dataclasses.dataclass
 class Turn:
     """A turn: its letter, what it is at, where its condition stands, as file and byte, its text, whether it says that
-    the condition holds, whether the turns in the condition agree, and what tells it from others."""
+    the condition holds, whether the turns in the condition agree, what tells it from others, and what else it says."""
 
     letter: str
     kind: str
@@ -32,6 +32,16 @@ class Turn:
     holds: bool
     agrees: bool
     key: tuple
+    told: str = ""
+
+
+@dataclasses.dataclass
+class Plan:
+    """Turns that are wanted: the letters, by what tells the turns from others, which conditions hold, and the last."""
+
+    letters: dict
+    holds: dict
+    last: tuple
 
 
 class Stop(Exception):
@@ -52,6 +62,7 @@ class Frame:
     def __init__(self, owner, names, calls):
         self.owner, self.names, self.calls = owner, dict(names), calls
         self.tokens, self.partners = owner.outline.tokens, owner.outline.partners
+        self.tests = {}
 
 
 class Walk:
@@ -59,7 +70,7 @@ class Walk:
 
     def __init__(self, classes, letters, plan=None):
         self.classes, self.letters, self.plan = classes, list(letters), plan
-        self.turns, self.passed, self.visits = [], set(), {}
+        self.turns, self.passed, self.visits, self.holds = [], set(), {}, {}
 
     def key(self, frame, i):
         """What tells the next turn at a token from all others."""
@@ -69,7 +80,7 @@ class Walk:
 
     def wanted(self, key):
         """Whether the plan has a condition hold; nothing where there is no plan."""
-        return None if self.plan is None or key not in self.plan else self.plan[key] == "L"
+        return None if self.plan is None else self.plan.holds.get(key)
 
     def next_letter(self, key, forced):
         """The letter of the next turn."""
@@ -77,20 +88,27 @@ class Walk:
             if len(self.turns) == len(self.letters):
                 raise Stop
             return self.letters[len(self.turns)]
-        if self.turns and self.turns[-1].key == self.plan["last"]:
+        if self.turns and self.turns[-1].key == self.plan.last:
             raise Stop
-        return forced or self.plan.get(key, "R")
+        return forced or self.plan.letters.get(key, "R")
 
-    def turn(self, frame, kind, i, j, truth, key, forced=None):
-        """Takes a turn at a condition whose value the turns in it tell, where they do; its letter."""
+    def turn(self, frame, kind, i, j, key, forced=None):
+        """Takes a turn at a condition; its letter."""
         letter = self.next_letter(key, forced)
         outline = frame.owner.outline
         first, last = outline.places[i], outline.places[j - 1] + len(frame.tokens[j - 1])
         text = " ".join(outline.data[first:last].decode("utf-8", "replace").split())
         holds = (letter == "L") != (kind == "||")
-        self.turns.append(Turn(letter, kind, frame.owner.file, first, text, holds, truth in (None, holds), key))
+        self.turns.append(Turn(letter, kind, frame.owner.file, first, text, holds, True, key))
         self.passed = set()
         return letter
+
+    def settled(self, test, holds):
+        """Notes that a condition holds or not, whose turns may say the other."""
+        key, truth = test
+        self.holds[key] = holds
+        if truth not in (None, holds) and self.turns:
+            self.turns[-1].agrees = False
 
     def enter(self, owner, key, calls):
         """Walks through a method; the class of its result, where that is one of the folder."""
@@ -104,7 +122,7 @@ class Walk:
         if key[0] == "<new>":
             self.initialise(owner, calls)
         try:
-            self.statement(Frame(owner, body.names, calls), body.block)
+            self.code(Frame(owner, body.names, calls), body.code(owner.outline))
         except Returned:
             pass
         return body.result
@@ -117,101 +135,115 @@ class Walk:
 
     # Statements.
 
-    def statement(self, frame, i):
-        """Walks through a statement; the place behind it."""
-        token = frame.tokens[i]
-        if token == b"{":
-            end, i = frame.partners[i], i + 1
-            while i < end:
-                i = self.statement(frame, i)
-            return end + 1
-        if token == b"if":
-            return self.choice(frame, i)
-        if token == b"while":
-            closed = frame.partners[i + 1]
-            self.loop(frame, i, (i + 2, closed), None, closed + 1)
-            return self.behind(frame, closed + 1)
-        if token == b"for":
-            return self.for_loop(frame, i)
-        if token == b"synchronized":
-            self.expression(frame, i + 2, frame.partners[i + 1])
-            return self.statement(frame, frame.partners[i + 1] + 1)
-        end = self.find(frame, i, len(frame.tokens), (b";",))
-        if token == b"return":
-            self.expression(frame, i + 1, end)
-            raise Returned
-        self.declared(frame, i, end)
-        return end + 1
+    def code(self, frame, parts):
+        """Walks through parts one after another."""
+        for part in parts:
+            if part.form == "run":
+                self.items(frame, part.first, part.end)
+            elif part.form == "declare":
+                self.declared(frame, part.first, part.end)
+            elif part.form == "element":
+                name = frame.tokens[part.end - 1].decode("utf-8", "replace")
+                frame.names[name] = simple_type(frame.tokens[part.first : part.first + 1])
+            elif part.form == "test":
+                key = self.key(frame, part.at)
+                truth = self.expression(frame, part.first, part.end, self.wanted(key))[1]
+                frame.tests[part.at] = key, truth
+            elif part.form == "known":
+                self.known(frame, part)
+            elif part.form == "choice":
+                self.choice(frame, part)
+            elif part.form == "loop":
+                self.loop(frame, part)
+            elif part.form == "split":
+                self.split(frame, part)
+            elif part.form == "ret":
+                raise Returned
+            elif part.form == "throw":
+                raise Lost
 
-    def behind(self, frame, i):
-        """The place behind a statement that is not walked through."""
-        token = frame.tokens[i]
-        if token == b"{":
-            return frame.partners[i] + 1
-        if token in (b"if", b"while", b"for", b"synchronized"):
-            i = self.behind(frame, frame.partners[i + 1] + 1)
-            if token == b"if" and frame.tokens[i] == b"else":
-                i = self.behind(frame, i + 1)
-            return i
-        return self.find(frame, i, len(frame.tokens), (b";",)) + 1
+    def test_at(self, frame, at):
+        """The condition that was looked at last, and what the turns in it say of it."""
+        found = frame.tests.pop(at, None)
+        return (self.key(frame, at), None) if found is None else found
 
-    def choice(self, frame, i):
-        """An `if`."""
-        closed = frame.partners[i + 1]
-        key = self.key(frame, i)
-        truth = self.expression(frame, i + 2, closed, self.wanted(key))[1]
-        letter = self.turn(frame, "if", i + 2, closed, truth, key)
-        end = self.behind(frame, closed + 1)
-        other = frame.tokens[end] == b"else"
-        if letter == "L":
-            self.statement(frame, closed + 1)
-        elif other:
-            self.statement(frame, end + 1)
-        return self.behind(frame, end + 1) if other else end
+    def known(self, frame, part):
+        """A choice that is settled."""
+        if part.word == "if":
+            self.settled(self.test_at(frame, part.at), part.side)
 
-    def loop(self, frame, i, condition, updates, body):
-        """A `while`, or a `for` behind its first part; the condition and the updates are places of tokens."""
+    def choice(self, frame, part):
+        """A choice: an `if`, or one that has no condition."""
+        test = self.test_at(frame, part.at)
+        is_left = self.turn(frame, part.word, part.first, part.end, test[0]) == "L"
+        if part.word == "told":
+            self.turns[-1].told = part.told[not is_left]
+        else:
+            self.settled(test, is_left)
+        self.code(frame, part.left if is_left else part.right)
+
+    def loop(self, frame, part):
+        """Rounds of a loop."""
+        kind = frame.tokens[part.at].decode()
         while True:
-            key, truth = self.key(frame, i), None
-            if condition[0] < condition[1]:
-                truth = self.expression(frame, *condition, self.wanted(key))[1]
-            shown = condition if condition[0] < condition[1] else (i, i + 1)
-            kind = frame.tokens[i].decode()
-            if self.turn(frame, kind, *shown, truth, key) == "R":
+            test = self.test_at(frame, part.at)
+            key = (*test[0], "round") if part.word == "may end by a jump" else test[0]
+            is_left = self.turn(frame, kind, part.first, part.end, key) == "L"
+            if is_left or part.word != "may end by a jump":
+                self.settled(test, is_left or bool(part.word))
+            else:
+                frame.tests[part.at] = test
+            if not is_left:
+                self.last_round(kind, part.word)
                 return
-            self.statement(frame, body)
-            if updates:
-                self.items(frame, *updates)
+            self.code(frame, part.left)
 
-    def for_loop(self, frame, i):
-        """Both forms of `for`; the place behind it."""
-        closed = frame.partners[i + 1]
-        first = self.find(frame, i + 2, closed, (b";",))
-        if first < closed:
-            second = self.find(frame, first + 1, closed, (b";",))
-            self.declared(frame, i + 2, first)
-            self.loop(frame, i, (first + 1, second), (second + 1, closed), closed + 1)
-            return self.behind(frame, closed + 1)
-        colon = self.find(frame, i + 2, closed, (b":",))
-        self.expression(frame, colon + 1, closed)
-        while self.turn(frame, "for", i + 2, closed, None, self.key(frame, i)) == "L":
-            frame.names[frame.tokens[colon - 1].decode("utf-8", "replace")] = simple_type(frame.tokens[i + 2 : i + 3])
-            self.statement(frame, closed + 1)
-        return self.behind(frame, closed + 1)
+    def last_round(self, kind, word):
+        """Says of the last turn that a loop has no more whole rounds, where one may come that a jump ends."""
+        if word:
+            self.turns[-1].told = f"{kind} ({self.turns[-1].text}): no more whole round; the next one {word}"
+
+    def split(self, frame, part):
+        """A choice between paths that a jump ends and others."""
+        if part.end:
+            self.last(frame, part)
+            return
+        heads = [side[0] if side and side[0].form == "known" else None for side in (part.left, part.right)]
+        if all(heads) and heads[0].at == heads[1].at and heads[0].at in frame.tests:
+            self.condition(frame, part, heads[0])
+            return
+        jump = jump_in(part.left)
+        if jump is None:
+            raise Lost
+        end = self.find(frame, jump.at, len(frame.tokens), (b";",))
+        is_left = self.turn(frame, "jump", jump.at, end, self.key(frame, jump.at)) == "L"
+        self.turns[-1].told = f"{self.turns[-1].text}: {'is taken' if is_left else 'is not taken'}"
+        self.code(frame, part.left if is_left else part.right)
+
+    def condition(self, frame, part, head):
+        """A choice between a jump and what stands behind it, by one condition."""
+        test = self.test_at(frame, head.at)
+        closed = frame.partners[head.at + 1]
+        is_left = self.turn(frame, "if", head.at + 2, closed, test[0]) == "L"
+        self.turns[-1].holds = is_left == head.side
+        self.settled(test, self.turns[-1].holds)
+        self.code(frame, (part.left if is_left else part.right)[1:])
+
+    def last(self, frame, part):
+        """One more round of a loop that a jump ends, or none."""
+        test = self.test_at(frame, part.at)
+        is_left = self.turn(frame, frame.tokens[part.at].decode(), part.first, part.end, test[0]) == "L"
+        self.settled(test, is_left)
+        self.code(frame, part.left if is_left else part.right)
 
     def declared(self, frame, i, end):
         """A local variable, or an expression."""
-        while i < end and frame.tokens[i] == b"final":
-            i += 1
-        k = i
-        while k < end and (NAME.fullmatch(frame.tokens[k]) or frame.tokens[k] in TYPE_SIGNS):
-            if k > i and NAME.fullmatch(frame.tokens[k]) and frame.tokens[k - 1] not in (b".", b"<", b",", b"?", b"["):
-                break
-            k += 1
-        is_local = i < k < end and NAME.fullmatch(frame.tokens[k]) and frame.tokens[k] != b"instanceof"
-        if not is_local or frame.tokens[i] in (b"new", b"return"):
+        k = declared_name(frame.tokens, i, end)
+        if k is None:
             self.items(frame, i, end)
             return
+        while frame.tokens[i] == b"final":
+            i += 1
         kind = simple_type(frame.tokens[i:k]) if k == i + 1 else None
         while k < end:
             frame.names[frame.tokens[k].decode("utf-8", "replace")] = kind
@@ -277,7 +309,9 @@ class Walk:
             colon = frame.partners[colon] + 1 if frame.tokens[colon] in CLOSING else colon + 1
         key = self.key(frame, asked)
         truth = self.expression(frame, i, asked, self.wanted(key))[1]
-        if self.turn(frame, "? :", i, asked, truth, key) == "L":
+        is_left = self.turn(frame, "? :", i, asked, key) == "L"
+        self.settled((key, truth), is_left)
+        if is_left:
             return self.expression(frame, asked + 1, colon)
         return self.expression(frame, colon + 1, j)
 
@@ -286,10 +320,12 @@ class Walk:
         kind, key = frame.tokens[at].decode(), self.key(frame, at)
         forced = left = None
         if self.plan is not None:
-            forced = "L" if wanted is not None and wanted == (kind == "&&") else self.plan.get(key, "R")
+            forced = "L" if wanted is not None and wanted == (kind == "&&") else self.plan.letters.get(key, "R")
             left = (forced == "L") == (kind == "&&")
         truth = self.expression(frame, i, at, left)[1]
-        if self.turn(frame, kind, i, at, truth, key, forced) == "R":
+        letter = self.turn(frame, kind, i, at, key, forced)
+        self.settled((key, truth), self.turns[-1].holds)
+        if letter == "R":
             return None, kind == "||"
         return None, self.expression(frame, at + 1, j, wanted)[1]
 
@@ -350,8 +386,17 @@ class Walk:
         return k + 1, frame.owner.fields.get(name) or (name if name in self.classes else None)
 
 
+def jump_in(parts):
+    """The first jump or return among parts; nothing where there is none."""
+    for part in parts:
+        found = part if part.form in ("jump", "ret") else jump_in(part.left) or jump_in(part.right)
+        if found is not None:
+            return found
+    return None
+
+
 def walked(classes, owner, entry, letters, access, plan=None):
-    """The turns of a thread that enters a method of a class, up to an access, as file and byte; nothing where the walk
+    """The walk of a thread that enters a method of a class, up to an access, as file and byte; nothing where the walk
     does not come by it behind its last turn."""
     name, _, count = entry.rpartition("/")
     walk = Walk(classes, letters, plan)
@@ -362,4 +407,4 @@ def walked(classes, owner, entry, letters, access, plan=None):
     except (KeyError, IndexError, RecursionError, ValueError):
         return None
     good = access in walk.passed and (plan is not None or len(walk.turns) == len(walk.letters))
-    return walk.turns if good else None
+    return walk if good else None

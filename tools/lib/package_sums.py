@@ -10,7 +10,7 @@ from script_main import say
 # From the best to the worst; every other status is worse, and counts as 70.
 ORDER = (0, 1, 5, 6, 4, 3)
 MARKS = ("confirmed", "unnamed", "unstable", "unread", "long", "blocked")
-REASONS = ("overload", "outside", "parameters", "locals", "recursive", "large")
+REASONS = ("overload", "outside", "parameters", "locals", "operations", "recursive", "large")
 
 
 def rank(status):

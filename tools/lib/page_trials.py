@@ -54,7 +54,7 @@ def report(files):
         outside = {**side(file, 1), "at": [f"{file}:1:1"]}
         found.append({**outside, "mark": {"word": "unnamed"}, "with": outside})
     left = [{"method": f"{NAME}.lost<script>/2", "place": f"{files[0]}:1:1", "reason": EVIL}]
-    counts = {"classes": 1, "files": len(files), "methods": 3, "profile": 3}
+    counts = {"classes": 1, "files": len(files), "methods": 3, "profile": 4}
     return {**counts, "not_analysed": left, "skipped": [f"{files[0]}:2:3"], "warnings": found}
 
 
@@ -102,17 +102,21 @@ class Desk {
   void help(int a, int b) {
     if (a > 0 && b > 0) { open = 1; }
   }
-  void lost() { try { open = 2; } finally { } }
+  void lost() { held = () -> open = 2; }
   void both() { lost(); open = 3; }
   void none() { next.open = 4; }
+  void left(int a) { while (a > 0) { if (a > 1) break; a--; } try { if (a < 0) return; } finally { open = 5; } }
 }
 """
 TOLD = (
     "R Desk.java:6:9 (a &gt; 0) &amp;&amp;: does not hold",
     "L Desk.java:6:9 if (a &gt; 0 &amp;&amp; b &gt; 0): holds, against the turns in it",
     "These turns contradict one another",
-    "Desk.lost/0 (outside, for try) is not read",
+    "Desk.lost/0 (outside, for lambda) is not read",
     "next is null there, or from outside",
+    "R Desk.java:11:29 while (a &gt; 0): no more whole round; the next one may end by a jump",
+    "L Desk.java:11:29 while (a &gt; 0): holds",
+    "L Desk.java:11:80 return: is taken",
 )
 
 
@@ -122,13 +126,16 @@ def desk():
         return {"at": [f"Desk.java:{place}"], "kind": "write", "locked": False, "main": False,
                 "method": f"Desk.{method}", "path": "this.open"}
 
-    legs = [{"steps": 9, "thread": thread, "turns": "RL"} for thread in (0, 1)]
-    run = {"class": "Desk", "entries": ["help/2", "help/2"], "legs": legs, "objects": []}
-    witness = {**run, "path": "this.open", "version": 2}
-    marks = [("help/2", "6:27", {"word": "confirmed", "witness": witness})]
+    def confirmed(method, turns):
+        legs = [{"steps": 9, "thread": thread, "turns": turns} for thread in (0, 1)]
+        run = {"class": "Desk", "entries": [method, method], "legs": legs, "objects": []}
+        return {"word": "confirmed", "witness": {**run, "path": "this.open", "version": 2}}
+
+    marks = [("help/2", "6:27", confirmed("help/2", "RL"))]
+    marks.append(("left/1", "11:100", confirmed("left/1", "RLL")))
     marks.append(("both/0", "9:25", {"word": "unread", "place": "Desk.java:9:17"}))
     marks.append(("none/0", "10:22", {"word": "blocked", "place": "Desk.java:10:22", "thread": 0}))
     found = [{**side_of(name, at), "mark": mark, "with": side_of(name, at)} for name, at, mark in marks]
     left = [{"method": "Desk.lost/0", "place": "Desk.java:8:8", "reason": "outside"}]
-    counts = {"classes": 1, "files": 1, "methods": 5, "profile": 3, "skipped": []}
+    counts = {"classes": 1, "files": 1, "methods": 6, "profile": 4, "skipped": []}
     return {**counts, "not_analysed": left, "warnings": found}

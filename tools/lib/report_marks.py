@@ -86,6 +86,12 @@ def null_at(report, place):
     return " ".join(told.decode("utf-8", "replace").split())
 
 
+def throws_at(report, place):
+    """Whether a `throw` stands at a place."""
+    outline, i = token_at(report, place)
+    return outline is not None and outline.tokens[i] == b"throw"
+
+
 def mark_note(report, mark):
     """What a mark says beyond its word, to be put behind it; nothing where no more is known."""
     place = mark.get("place")
@@ -94,5 +100,7 @@ def mark_note(report, mark):
     if mark["word"] == "unread":
         found = called(report, place)
         return f": {' or '.join(found)} is not read" if 0 < len(found) <= 3 else ""
+    if mark["word"] == "blocked" and throws_at(report, place):
+        return ": each way on throws there"
     null = null_at(report, place)
     return f": {null} is null there, or from outside" if null else ""

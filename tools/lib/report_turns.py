@@ -1,6 +1,6 @@
 """The turns of a confirmed warning in words: at which condition each is taken, and whether they agree."""
 from java_folder import read_classes
-from java_walk import walked
+from java_walk import Plan, walked
 from package_trees import read_sources
 from report_files import joined, split_place
 from report_types import offset, source_files
@@ -37,8 +37,13 @@ class Turns:
             self.known[id(report)] = (read_classes(sources), dict(sources))
         return self.known[id(report)]
 
-    def of_leg(self, report, warning, leg, plan=None):
+    def of_leg(self, report, warning, leg):
         """The turns of a leg of a warning's run; nothing where the sources do not tell them."""
+        walk = self.walk(report, warning, leg)
+        return walk and walk.turns
+
+    def walk(self, report, warning, leg, plan=None):
+        """The walk of a leg of a warning's run, by its letters or by a plan; nothing where it does not come there."""
         classes, files = self.read(report)
         witness, thread = warning["mark"]["witness"], leg["thread"]
         name, line, column = split_place((warning, warning["with"])[thread]["at"][-1])
@@ -56,12 +61,12 @@ class Turns:
     def agreeing(self, report, warning, leg):
         """The turns of a leg as they are where none contradicts another: the turns that follow from one that is at a
         condition as a whole are those of the leg; nothing where the sources do not tell them."""
-        turns = self.of_leg(report, warning, leg)
-        if not turns:
-            return turns
-        plan = {turn.key: turn.letter for turn in turns}
-        plan["last"] = turns[-1].key
-        return self.of_leg(report, warning, leg, plan)
+        walk = self.walk(report, warning, leg)
+        if not walk or not walk.turns:
+            return walk and walk.turns
+        plan = Plan({turn.key: turn.letter for turn in walk.turns}, walk.holds, walk.turns[-1].key)
+        walk = self.walk(report, warning, leg, plan)
+        return walk and walk.turns
 
 
 def contradicting(turns):
@@ -71,9 +76,10 @@ def contradicting(turns):
 
 def turn_text(turn):
     """What a turn says of its condition."""
-    if turn.kind == "for" and ":" in turn.text and ";" not in turn.text and "?" not in turn.text:
+    if not turn.told and turn.kind == "for" and ":" in turn.text and ";" not in turn.text and "?" not in turn.text:
         return f"for ({turn.text}): {'one more' if turn.holds else 'no more'}"
-    word = {"if": "if", "while": "while", "for": "for"}.get(turn.kind, turn.kind)
-    told = f"{word} ({turn.text})" if word in ("if", "while", "for") else f"({turn.text}) {word}"
+    told = f"{turn.kind} ({turn.text})" if turn.kind in ("if", "while", "for") else f"({turn.text}) {turn.kind}"
     against = "" if turn.agrees else ", against the turns in it"
+    if turn.told:
+        return turn.told + against
     return f"{told}: {'holds' if turn.holds else 'does not hold'}{against}"

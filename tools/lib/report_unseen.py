@@ -103,9 +103,6 @@ class Reach:
 
 # Forms that come together: who reads one of them mostly wants the others.
 TOGETHER = (
-    ({"try", "throw"}, "try or throw"),
-    ({"switch", "break"}, "switch or break"),
-    ({"break", "continue", "label", "do"}, "break, continue or do"),
     ({"lambda", "method reference"}, "lambda or method reference"),
     ({"anonymous class", "local class", "super"}, "inner class or super"),
 )
@@ -119,5 +116,4 @@ def grouped(words):
     for group, name in TOGETHER:
         if found <= group:
             return name
-    statements = {"try", "throw", "switch", "break", "continue", "do", "label", "assert"}
-    return "several statements" if found <= statements else "several forms"
+    return "several forms"

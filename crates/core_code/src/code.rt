@@ -40,7 +40,7 @@ pub enum Op {
 pub enum LockKind {
     /// The object's monitor (JLS 17.1).
     Own,
-    /// The lock that the object is, where a field's value is a lock object. No code has it yet.
+    /// The lock that the object is, where it is the value of a lock field.
     Explicit,
 }
 
@@ -66,6 +66,8 @@ pub enum Reason {
     Parameters,
     /// It has too many locals.
     Locals,
+    /// Its code is too large.
+    Operations,
     /// A chain of calls leads from it to itself.
     Recursive,
 }

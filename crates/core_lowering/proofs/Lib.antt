@@ -1,5 +1,4 @@
 pub mod Counting
-pub mod LocalCounts
 pub mod SameReasons
 pub mod SameSources
 pub mod SameCounts
@@ -10,4 +9,4 @@ pub mod Ordered
 pub mod SamePrograms
 pub mod Loops
 pub mod MethodsMade
-mod Tries
+pub mod CountedSources

@@ -12,7 +12,7 @@ use Rattle.core_code.specs.Core.{Core}
 use Rattle.core_code.specs.Recursion.{all_rows}
 use Rattle.core_lowering_rules.specs.Context.{Folder}
 use Rattle.core_lowering_rules.specs.Methods.{Source}
-use Rattle.core_lowering_rules.specs.Programs.{sources_of, declared_in, statuses_from, folder_of, class_core}
+use Rattle.core_lowering_rules.specs.Programs.{sources_of, declared_in, statuses_from, class_core}
 use Rattle.core_lowering_rules.specs.Programs.{field_core}
 use Rattle.core_lowering_rules.specs.Programs.{method_cores, skipped_in, in_order, program_of, draft_of}
 use Rattle.core_lowering.specs.Calls.{row_in}

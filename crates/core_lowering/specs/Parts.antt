@@ -7,8 +7,7 @@ use Rattle.java_tree.specs.declared.unit.Member.{Member}
 use Rattle.java_tree.specs.declared.unit.Member.TheVariants as member
 use Rattle.java_resolver.specs.declared.infos.MethodInfo.{MethodInfo}
 use Rattle.java_resolver.specs.Declarations.{member_is_constructor}
-use Rattle.core_lowering_rules.specs.Methods.{Body, Default, Unspelled, Source}
-use Rattle.core_lowering_rules.specs.LoweredForms.{method_body}
+use Rattle.core_lowering_rules.specs.Methods.{Body, Default, Spelled, Unspelled, Source}
 use Rattle.core_lowering_methods.specs.declared.sources.Body.{Body as CodeBody}
 use Rattle.core_lowering_methods.specs.Sources.{body_of}
 use Rattle.core_lowering.specs.declared.sources.Part.{Part}
@@ -25,7 +24,7 @@ abbrev pub part_of : Part → MethodPart
 part_of p = part p.members.now p.body
 
 abbrev pub member_parts : List Member → Member → List MethodPart
-member_parts members (member.Method m) = record { members = members; body = method_body m } ∷ []
+member_parts members (member.Method m) = record { members = members; body = Spelled m } ∷ []
 member_parts members (member.Outside h) = record { members = members; body = Unspelled } ∷ []
 member_parts members (member.Field f) = []
 member_parts members (member.Skipped place) = []

@@ -1,13 +1,15 @@
 //! Methods with their code.
 ghost use Rattle.std.specs.Prelude.{◌≡◌, IfOk, map};
+ghost use Rattle.std.specs.List.{All};
 ghost use Rattle.core_code.specs.Core.{method_of};
 ghost use Rattle.core_lowering_rules.specs.Programs as wanted;
 ghost use Rattle.core_lowering_methods.specs.Views.{folder_of};
-ghost use Rattle.core_lowering_methods.specs.Sources.{source_of};
 ghost use Rattle.core_lowering.specs.Entries.{is_checked_in, is_entry_in};
+ghost use Rattle.core_lowering.specs.Surveys.{seen, IsRight};
 
+use crate::surveys::Surveyed;
 use core_code::{MethodCore, Reason};
-use core_lowering_methods::{Source, lower_method};
+use core_lowering_methods::lower_method;
 use java_resolver::{ClassInfo, MethodInfo, Table};
 use racer_base::{ClassId, Items, Kind, Memory, Text};
 use std::alloc::Global;
@@ -44,16 +46,17 @@ fn method(
     alloc: Global,
     table: &Table,
     statuses: &[Option<Reason>],
-    source: &Source,
+    surveyed: &Surveyed,
     status: Option<Reason>,
 ) -> Result<MethodCore, Memory>
+    requires { IsRight table.now surveyed.now }
     ensures { IfOk result (λ method. method_of method ≡
-        wanted.method_core (folder_of table.now statuses.now) (source_of source.now) status) }
+        wanted.method_core (folder_of table.now statuses.now) (seen surveyed.now) status) }
 {
-    let info = source.info;
+    let info = surveyed.source.info;
     let name = Text::from_str(alloc, info.name.as_str())?;
     let parameters = kinds_of(alloc, info.parameters.as_slice())?;
-    let lowered = lower_method(alloc, table, statuses, source)?;
+    let lowered = lower_method(alloc, table, statuses, &surveyed.source, surveyed.extent)?;
     Ok(MethodCore {
         class: info.class,
         name,
@@ -74,14 +77,15 @@ pub(crate) fn methods(
     alloc: Global,
     table: &Table,
     statuses: &[Option<Reason>],
-    sources: &[Source],
+    surveyed: &[Surveyed],
 ) -> Result<Items<MethodCore>, Memory>
+    requires { All (IsRight table.now) surveyed.now }
     ensures { IfOk result (λ methods. map method_of methods ≡
-        wanted.method_cores (folder_of table.now statuses.now) (map source_of sources.now) statuses.now) }
+        wanted.method_cores (folder_of table.now statuses.now) (map seen surveyed.now) statuses.now) }
 {
     let mut methods = Items::new(alloc);
-    for (source, status) in sources.iter().zip(statuses) {
-        methods.push(method(alloc, table, statuses, source, *status)?)?;
+    for (one, status) in surveyed.iter().zip(statuses) {
+        methods.push(method(alloc, table, statuses, one, *status)?)?;
     }
     Ok(methods)
 }

@@ -1,6 +1,6 @@
 //! The program of the units of a folder.
 ghost use Rattle.std.specs.Prelude.{◌≡◌, ◌≤◌, [], IfOk, IfErr, IsTrue, None, map};
-ghost use Rattle.std.specs.List.{flat_map};
+ghost use Rattle.std.specs.List.{All, flat_map};
 ghost use Rattle.std.specs.String.{string_bytes};
 ghost use Rattle.racer_base.specs.declared.limits.TheConstants.{MAX_CALL_EDGES};
 ghost use Rattle.core_code.specs.Chains.{flag_of};
@@ -14,12 +14,11 @@ ghost use Rattle.core_lowering_rules.specs.Conditions.{are_in_files, are_named};
 ghost use Rattle.core_lowering_rules.specs.Programs as wanted;
 ghost use Rattle.core_lowering_rules.specs.Programs.{draft_of, IsLowered};
 ghost use Rattle.core_lowering_methods.specs.Views.{folder_of};
-ghost use Rattle.core_lowering_methods.specs.Sources.{source_of};
 ghost use Rattle.core_lowering.specs.Calls.{are_rows_low};
 ghost use Rattle.core_lowering.specs.Known.{IsKnown};
-ghost use Rattle.core_lowering.specs.Lowered.{calls_of, IsFault};
+ghost use Rattle.core_lowering.specs.Lowered.{calls_of, AreCounted, IsFault};
+ghost use Rattle.core_lowering.specs.Surveys.{seen as source_seen, IsRight};
 
-use crate::calls::{Drafts, find_drafts};
 use crate::classes::{classes, fields, file_names};
 use crate::edges::count_edges;
 use crate::fault::LowerFault;
@@ -27,8 +26,8 @@ use crate::methods::methods;
 use crate::skipped::skipped_of;
 use crate::sources::sources_of;
 use crate::statuses::statuses;
+use crate::surveys::{Surveyed, Surveys, find_surveys};
 use core_code::{Parts, Program, Reason, on_cycles};
-use core_lowering_methods::Source;
 use java_resolver::Table;
 use java_tree::Unit;
 use racer_base::{Items, MAX_CALL_EDGES, Memory, MethodId};
@@ -51,14 +50,15 @@ fn parts(
     units: &[Unit],
     files: &[String],
     statuses: &[Option<Reason>],
-    sources: &[Source],
+    surveyed: &[Surveyed],
 ) -> Result<Parts, Memory>
+    requires { All (IsRight table.now) surveyed.now }
     ensures { IfOk result (λ parts. core_of parts ≡ record {
       files = map (λ file. string_bytes file) files.now;
       skipped = wanted.in_order (flat_map wanted.skipped_in units.now);
       classes = map wanted.class_core (seen.classes table.now);
       fields = map wanted.field_core (seen.fields table.now);
-      methods = wanted.method_cores (folder_of table.now statuses.now) (map source_of sources.now) statuses.now;
+      methods = wanted.method_cores (folder_of table.now statuses.now) (map source_seen surveyed.now) statuses.now;
     }) }
 {
     Ok(Parts {
@@ -66,7 +66,7 @@ fn parts(
         skipped: skipped_of(alloc, units)?,
         classes: classes(alloc, table.classes())?,
         fields: fields(alloc, table.fields())?,
-        methods: methods(alloc, table, statuses, sources)?,
+        methods: methods(alloc, table, statuses, surveyed)?,
     })
 }
 
@@ -78,14 +78,14 @@ fn program_parts(
     files: &[String],
     reasons: &[Option<Reason>],
     recursive: &[bool],
-    sources: &[Source],
+    surveyed: &[Surveyed],
 ) -> Result<Parts, Memory>
-    requires known { IsKnown table.now units.now sources.now reasons.now }
+    requires known { IsKnown table.now units.now surveyed.now reasons.now }
     ensures { IfOk result (λ parts. core_of parts ≡
         wanted.program_of (map (λ file. string_bytes file) files.now) units.now (flag_of recursive.now)) }
 {
     let statuses = statuses(alloc, reasons, recursive)?;
-    parts(alloc, table, units, files, statuses.as_slice(), sources)
+    parts(alloc, table, units, files, statuses.as_slice(), surveyed)
 }
 
 /// The program where the methods of these flags are recursive, which tell the recursion of the draft.
@@ -96,9 +96,9 @@ fn program(
     files: &[String],
     reasons: &[Option<Reason>],
     recursive: &[bool],
-    sources: &[Source],
+    surveyed: &[Surveyed],
 ) -> Result<Program, Memory>
-    requires known { IsKnown table.now units.now sources.now reasons.now }
+    requires known { IsKnown table.now units.now surveyed.now reasons.now }
     requires accepted { refusal units.now ≡ None }
     requires named { IsTrue (are_named units.now) }
     requires placed { IsTrue (are_in_files (map (λ file. string_bytes file) files.now) units.now) }
@@ -106,7 +106,7 @@ fn program(
     ensures { IfOk result (λ made. program.core made ≡
         wanted.program_of (map (λ file. string_bytes file) files.now) units.now (flag_of recursive.now)) }
 {
-    let parts = program_parts(alloc, table, units, files, reasons, recursive, sources)?;
+    let parts = program_parts(alloc, table, units, files, reasons, recursive, surveyed)?;
     Ok(Program::of(parts))
 }
 
@@ -117,10 +117,10 @@ fn program_of(
     units: &[Unit],
     files: &[String],
     reasons: &[Option<Reason>],
-    sources: &[Source],
+    surveyed: &[Surveyed],
     rows: &[Items<MethodId>],
 ) -> Result<Program, Memory>
-    requires known { IsKnown table.now units.now sources.now reasons.now }
+    requires known { IsKnown table.now units.now surveyed.now reasons.now }
     requires accepted { refusal units.now ≡ None }
     requires named { IsTrue (are_named units.now) }
     requires placed { IsTrue (are_in_files (map (λ file. string_bytes file) files.now) units.now) }
@@ -136,30 +136,24 @@ fn program_of(
         files,
         reasons,
         flags.as_slice(),
-        sources,
+        surveyed,
     )?;
     Ok(made)
 }
 
-/// What is known of the methods of units.
-#[derive(Drop)]
-struct Known<'a> {
-    sources: Vec<Source<'a>>,
-    drafts: Drafts,
-}
-
-/// The sources of the methods, and what is known of them before it is known which are recursive.
-fn find_known<'a>(alloc: Global, table: &'a Table, units: &'a [Unit]) -> Result<Known<'a>, Memory>
+/// What is known of the methods of units before it is known which are recursive.
+fn find_known<'a>(alloc: Global, table: &'a Table, units: &'a [Unit]) -> Result<Surveys<'a>, Memory>
     requires classes { seen.classes table.now ≡ classes_of units.now }
     requires fields { seen.fields table.now ≡ fields_of units.now }
     requires methods { seen.methods table.now ≡ methods_of units.now }
-    ensures known { IfOk result (λ known.
-        IsKnown table.now units.now known.sources.items known.drafts.reasons.items) }
-    ensures rows { IfOk result (λ known. known.drafts.rows.items ≡ all_rows (draft_of [] units.now)) }
+    requires counted { AreCounted units.now }
+    ensures known { IfOk result (λ surveys.
+        IsKnown table.now units.now surveys.methods.items surveys.reasons.items) }
+    ensures rows { IfOk result (λ surveys. surveys.rows.items ≡ all_rows (draft_of [] units.now)) }
 {
     let sources = sources_of(alloc, table.methods(), units)?;
-    let drafts = find_drafts(alloc, table, sources.as_slice())?;
-    Ok(Known { sources, drafts })
+    let surveys = find_surveys(alloc, table, sources.as_slice())?;
+    Ok(surveys)
 }
 
 /// The program of the units of a folder, from their table and the names of its files.
@@ -175,18 +169,19 @@ pub fn lower(
     requires accepted { refusal units.now ≡ None }
     requires named { IsTrue (are_named units.now) }
     requires placed { IsTrue (are_in_files (map (λ file. string_bytes file) files.now) units.now) }
+    requires counted { AreCounted units.now }
     ensures ok { IfOk result (λ made.
         IsLowered (map (λ file. string_bytes file) files.now) units.now (program.core made)) }
     ensures few { IfOk result (λ _. calls_of units.now ≤ MAX_CALL_EDGES) }
     ensures err { IfErr result (IsFault units.now) }
 {
     let known = find_known(alloc, table, units)?;
-    let sources = known.sources.as_slice();
-    let reasons = known.drafts.reasons.as_slice();
-    let rows = known.drafts.rows.as_slice();
+    let surveyed = known.methods.as_slice();
+    let reasons = known.reasons.as_slice();
+    let rows = known.rows.as_slice();
     let edges = find_edges(alloc, units, rows)?;
     if edges as usize > MAX_CALL_EDGES {
         return Err(LowerFault::TooManyCalls(edges));
     }
-    Ok(program_of(alloc, table, units, files, reasons, sources, rows)?)
+    Ok(program_of(alloc, table, units, files, reasons, surveyed, rows)?)
 }

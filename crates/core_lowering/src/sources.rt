@@ -1,15 +1,13 @@
 //! What methods are made of, in source order.
 ghost use Rattle.std.specs.Prelude.{◌≡◌, ◌++◌, ◌∷◌, [], IfOk, OnOk, map};
 ghost use Rattle.std.specs.List.{flat_map};
-ghost use Rattle.core_lowering_rules.specs.LoweredForms.{method_body};
-ghost use Rattle.core_lowering_methods.specs.Sources.{body_of, source_of};
+ghost use Rattle.core_lowering_methods.specs.Sources.{source_of};
 ghost use Rattle.core_lowering.specs.Parts as wanted;
 ghost use Rattle.core_lowering.specs.Parts.{part_of};
 
-use crate::lowered_forms::are_lowered;
 use core_lowering_methods::{Body, Source};
 use java_resolver::{MethodInfo, any_is_constructor};
-use java_tree::{ClassTree, Member, MethodTree, Unit};
+use java_tree::{ClassTree, Member, Unit};
 use racer_base::Memory;
 use std::alloc::Global;
 
@@ -33,17 +31,6 @@ fn push_part<'a>(
     Ok(())
 }
 
-/// The body of a method that a tree spells.
-fn body_of_tree<'a>(method: &'a MethodTree) -> Body<'a>
-    ensures { body_of result ≡ method_body method.now }
-{
-    if are_lowered(method.body.as_slice()) {
-        Body::Spelled(method)
-    } else {
-        Body::Unspelled
-    }
-}
-
 /// The method that a member is, put behind those that there are.
 fn push_member<'a>(
     members: &'a [Member],
@@ -54,7 +41,7 @@ fn push_member<'a>(
         map part_of parts.old.items ++ wanted.member_parts members.now member.now) }
 {
     match member {
-        Member::Method(m) => push_part(members, body_of_tree(m), parts),
+        Member::Method(m) => push_part(members, Body::Spelled(m), parts),
         Member::Outside(_) => push_part(members, Body::Unspelled, parts),
         Member::Field(_) => Ok(()),
         Member::Skipped(_) => Ok(()),

@@ -1,24 +1,24 @@
 //! Why methods are not analysed.
-ghost use Rattle.std.specs.Prelude.{◌≡◌, [], IfOk};
+ghost use Rattle.std.specs.Prelude.{◌≡◌, ◌||◌, ◌-◌, IfOk, length};
 ghost use Rattle.core_code.specs.Chains.{flag_of};
 ghost use Rattle.java_resolver.specs.Table.{methods};
+ghost use Rattle.core_lowering_rules.specs.Methods.{this_kinds};
 ghost use Rattle.core_lowering_rules.specs.Programs.{is_unspelled};
-ghost use Rattle.core_lowering_rules.specs.Methods.{has_other_lock};
-ghost use Rattle.core_lowering_methods.specs.Views.{folder_of};
-ghost use Rattle.core_lowering_methods.specs.Sources.{body_of, source_of};
+ghost use Rattle.core_lowering_rules.specs.Programs as wanted_program;
+ghost use Rattle.core_lowering_methods.specs.Extents as seen;
+ghost use Rattle.core_lowering_methods.specs.Sources.{body_of};
 ghost use Rattle.core_lowering.specs.Counts.{AreCounts};
 ghost use Rattle.core_lowering.specs.Reasons as wanted;
 
 use crate::counts::is_overloaded;
-use crate::locals::count_locals;
 use core_code::Reason;
-use core_lowering_methods::{Body, Source};
-use java_resolver::Table;
+use core_lowering_methods::{Body, Extent, Source, Survey};
+use java_resolver::{MethodInfo, Table};
 use racer_base::{MAX_LOCALS, MAX_PARAMETERS, Memory};
 use std::alloc::Global;
 
-/// Whether no tree spells a body, or not one that is lowered.
-fn is_outside(body: &Body) -> bool
+/// Whether no tree spells a body.
+fn is_unspelled(body: &Body) -> bool
     ensures { result ≡ is_unspelled (body_of body.now) }
 {
     match body {
@@ -28,14 +28,34 @@ fn is_outside(body: &Body) -> bool
     }
 }
 
-/// The first reason that applies.
-fn first_reason(
+fn is_past(extent: Extent) -> bool
+    ensures { result ≡ seen.is_past extent }
+{
+    match extent {
+        Extent::Within => false,
+        Extent::Past => true,
+    }
+}
+
+/// How many of so many variables are neither `this` nor parameters.
+fn local_count(info: &MethodInfo, variables: usize) -> usize
+    ensures { result ≡ variables - length (this_kinds info.now) - length info.now.parameters }
+{
+    let own = if info.is_static { 0 } else { 1 };
+    variables
+        .saturating_sub(own)
+        .saturating_sub(info.parameters.len())
+}
+
+/// The first of these reasons that applies.
+fn first_of(
     is_overload: bool,
     is_outside: bool,
     parameters: usize,
     locals: usize,
+    is_past: bool,
 ) -> Option<Reason>
-    ensures { result ≡ wanted.first_reason is_overload is_outside parameters locals }
+    ensures { result ≡ wanted.first_of is_overload is_outside parameters locals is_past }
 {
     if is_overload {
         return Some(Reason::Overload);
@@ -49,25 +69,34 @@ fn first_reason(
     if locals > MAX_LOCALS {
         return Some(Reason::Locals);
     }
+    if is_past {
+        return Some(Reason::Operations);
+    }
     None
 }
 
-/// The first reason that applies to a method, apart from recursion.
-pub(crate) fn own_reason(
+/// The first reason that applies to a method, apart from recursion, where this is known of it.
+pub(crate) fn first_reason(
     table: &Table,
     counts: &[u32],
     source: &Source,
-    other_lock: bool,
+    survey: &Survey,
 ) -> Result<Option<Reason>, Memory>
     requires counts { AreCounts (methods table.now) counts.now }
-    requires locks { other_lock ≡ has_other_lock (folder_of table.now []) (source_of source.now) }
-    ensures { IfOk result (λ reason. reason ≡ wanted.reason_of table.now source.now) }
+    ensures { IfOk result (λ reason. reason ≡ wanted.first_of
+        (wanted_program.is_overloaded (methods table.now) source.now.info.now)
+        (is_unspelled (body_of source.now.body) || survey.now.has_other_lock || survey.now.is_apart)
+        (length source.now.info.now.parameters)
+        (length survey.now.lowered.kinds - length (this_kinds source.now.info.now)
+        - length source.now.info.now.parameters)
+        (seen.is_past survey.now.extent)) }
 {
     let is_overload = is_overloaded(table, counts, source.info)?;
-    let locals = count_locals(source)?;
+    let is_outside = is_unspelled(&source.body) || survey.has_other_lock || survey.is_apart;
     let parameters = source.info.parameters.len();
-    let is_outside = is_outside(&source.body) || other_lock;
-    Ok(first_reason(is_overload, is_outside, parameters, locals))
+    let locals = local_count(source.info, survey.lowered.kinds.len());
+    let is_past = is_past(survey.extent);
+    Ok(first_of(is_overload, is_outside, parameters, locals, is_past))
 }
 
 /// A reason, or else recursion.

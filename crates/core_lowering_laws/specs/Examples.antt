@@ -25,7 +25,8 @@ use Rattle.core_code.specs.declared.code.Op.TheVariants as op
 use Rattle.core_code.specs.declared.code.Reason.TheVariants.{Recursive}
 use Rattle.core_code.specs.Tree.{Tree, Op, Choice, Loop, Sync, in_sequence}
 use Rattle.core_lowering_rules.specs.ValueKinds.{ValueKind}
-use Rattle.core_lowering_rules.specs.Context.{Folder, Context, Result, Itself, Nothing, Value, Code, lock_at}
+use Rattle.core_lowering_drafts.specs.Only.{Code}
+use Rattle.core_lowering_rules.specs.Context.{Folder, Context, Result, Itself, Nothing, Value, lock_at, made}
 use Rattle.core_lowering_rules.specs.Expressions.{kind, code}
 use Rattle.core_lowering_rules.specs.Scopes.{declared}
 use Rattle.core_lowering_rules.specs.Statements.{stmt}
@@ -91,6 +92,11 @@ folder =
 
 -- ---- where code stands
 
+abbrev pub given_by : Result → Kind
+given_by Itself = an_a
+given_by Nothing = Plain
+given_by (Value k) = k
+
 -- a method of A without parameters
 abbrev pub entered : Bool → Result → List Kind → Context
 entered is_static result kinds =
@@ -98,9 +104,15 @@ entered is_static result kinds =
       folder = folder;
       place = method_place;
       result = result;
+      given = given_by result;
       scope = record { class = class_a; is_static = is_static; variables = [] };
       kinds = kinds;
+      exits = 0;
+      labels = [];
+      targets = [];
+      guards = [];
       other_lock = false;
+      is_apart = false;
     }
 
 -- variables k, a and o: a number, an object of A, any other
@@ -120,7 +132,7 @@ in_class result = with_variables (entered true result [])
 -- ---- code
 
 abbrev pub lowered_in : Context → List ℕ → Option Code
-lowered_in context text = option_map (stmt context) (stmt_of_text text)
+lowered_in context text = option_map (λ s. made (stmt context s)) (stmt_of_text text)
 
 -- a statement of a method that gives an object of A
 abbrev pub lowered : List ℕ → Option Code
@@ -131,10 +143,10 @@ abbrev pub lowered_static : List ℕ → Option Code
 lowered_static = lowered_in (in_class (Value Plain))
 
 abbrev pub value_of : List ℕ → Option Code
-value_of text = option_map (code (in_object Nothing)) (expr_of_text text)
+value_of text = option_map (λ e. made (code (in_object Nothing) e)) (expr_of_text text)
 
 abbrev pub static_value_of : List ℕ → Option Code
-static_value_of text = option_map (code (in_class Nothing)) (expr_of_text text)
+static_value_of text = option_map (λ e. made (code (in_class Nothing) e)) (expr_of_text text)
 
 abbrev pub kind_of_text : List ℕ → Option ValueKind
 kind_of_text text = option_map (kind (in_object Nothing)) (expr_of_text text)
@@ -217,7 +229,7 @@ held body = Sync (lock_at Own word_place) (in_sequence body)
 
 -- a method of this text as its body, with the return at its end
 abbrev pub ended_body : Context → List ℕ → Option Code
-ended_body context text = option_map (λ s. ended context (stmt context s)) (stmt_of_text text)
+ended_body context text = option_map (λ s. ended context (made (stmt context s))) (stmt_of_text text)
 
 -- void m(A a)
 abbrev pub in_m : Context
@@ -236,7 +248,7 @@ in_static = entered true Nothing []
 
 -- what a field of this name begins with, where it is not read
 abbrev pub unread_field : List ℕ → Code
-unread_field name = field_begun in_constructor (ident name) Unread
+unread_field name = made (field_begun in_constructor (ident name) Unread)
 
 -- fields of type int that are not read
 abbrev pub unread_int : List (List ℕ) → List ℕ → Member

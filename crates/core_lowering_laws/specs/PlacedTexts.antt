@@ -1,5 +1,6 @@
 -- No public contract rests on this: trees of texts, with each name at one place and each keyword at another.
-use Rattle.std.specs.Prelude.{ℕ, List, Option, Some, map, option_map}
+use Rattle.std.specs.Prelude.{ℕ, Bool, false, List, [], ◌∷◌, Option, None, Some, map, option_map, codes, bytes_eq}
+use Rattle.std.specs.Prelude.{if◌then◌else◌}
 use Rattle.racer_base.specs.declared.ids.Place.{Place}
 use Rattle.java_tree.specs.declared.words.Ident.{Ident}
 use Rattle.java_tree.specs.Trees as plain
@@ -12,7 +13,7 @@ use Rattle.java_parser_grammar.specs.StatementReading.{stmt_at}
 use Rattle.java_parser_grammar.specs.Taking.{◌>>=◌}
 use Rattle.java_parser_grammar.specs.JavaReaders.{method_readers}
 use Rattle.core_lowering_rules.specs.Trees as tree
-use Rattle.core_lowering_rules.specs.TreesOf.{access_of, literal, assignment, binary, prefix}
+use Rattle.core_lowering_rules.specs.TreesOf.{access_of, literal, assignment, binary, prefix, tried}
 
 abbrev pub at : ℕ → Place
 at column = record { file = record { 0 = 0 }; line = 1; column = column }
@@ -23,7 +24,7 @@ method_place = at 1
 abbrev pub name_place : Place
 name_place = at 2
 
--- of `new` and of `synchronized`
+-- of `new`, of `synchronized` and of `throw`
 abbrev pub word_place : Place
 word_place = at 3
 
@@ -74,6 +75,27 @@ abbrev pub start : plain.Start → tree.Start
 start (Declares l) = tree.Declares l.kind (map variable l.variables)
 start (Runs es) = tree.Runs (exprs es)
 
+abbrev pub is_true : plain.Expr → Bool
+is_true (plain.Literal k text) = bytes_eq text (codes "true")
+is_true _ = false
+
+abbrev pub condition : plain.Expr → tree.Condition
+condition e = record { on = expr e; is_true = is_true e }
+
+abbrev pub jump : Bool → Option Ident → tree.Stmt
+jump is_break x = if is_break then tree.Break x else tree.Continue x
+
+abbrev pub resource : plain.Resource → tree.Resource
+resource r = record { kind = r.kind; name = ident r.name; value = expr r.value }
+
+abbrev pub resources : Option plain.Resources → List tree.Resource
+resources None = []
+resources (Some rs) = map resource rs.items
+
+abbrev pub label : plain.Label → Option tree.Expr
+label (plain.Case e) = Some (expr e)
+label plain.Default = None
+
 abbrev mutual
   pub stmt : plain.Stmt → tree.Stmt
   stmt (plain.Block ss) = tree.Block (stmts ss)
@@ -81,19 +103,42 @@ abbrev mutual
   stmt (plain.Run e) = tree.Run (expr e)
   stmt (plain.If e s) = tree.If (expr e) (stmt s)
   stmt (plain.IfElse e s t) = tree.IfElse (expr e) (stmt s) (stmt t)
-  stmt (plain.For i e updates s) = tree.For (start i) (option_map expr e) (exprs updates) (stmt s)
+  stmt (plain.For i c updates s) = tree.For (start i) (option_map condition c) (exprs updates) (stmt s)
   stmt (plain.ForEach is_final t x e s) = tree.ForEach t (ident x) (expr e) (stmt s)
-  stmt (plain.Labelled x s) = tree.Empty
+  stmt (plain.Labelled x s) = tree.Labelled (ident x) (stmt s)
   stmt plain.Empty = tree.Empty
-  -- by what stands behind the keyword: of the rows that are lowered no two have the same
-  stmt (plain.Row word (plain.a_condition e (plain.a_body s rest))) = tree.While (expr e) (stmt s)
+  -- by what stands behind the keyword: no two rows have the same, but `break` and `continue`
+  stmt (plain.Row word (plain.a_condition e (plain.a_body s rest))) = tree.While (condition e) (stmt s)
   stmt (plain.Row word (plain.a_condition e (plain.a_block ss rest))) = tree.Sync word_place (expr e) (stmts ss)
+  stmt (plain.Row word (plain.a_condition e (plain.a_switch gs rest))) = tree.Switch (expr e) (groups gs)
   stmt (plain.Row word (plain.maybe_an_expr e rest)) = tree.Return (option_map expr e)
+  stmt (plain.Row word (plain.maybe_a_name x rest)) = jump (bytes_eq word (codes "break")) (option_map ident x)
+  stmt (plain.Row word (plain.an_expr e (plain.a_token t rest))) = tree.Throw word_place (expr e)
+  stmt (plain.Row word (plain.an_expr e (plain.maybe_behind text f rest))) = tree.Assert (expr e) (option_map expr f)
+  stmt (plain.Row word (plain.a_body s (plain.a_token t (plain.a_condition e rest)))) = tree.Do (stmt s) (condition e)
+  stmt (plain.Row word (plain.some_part (plain.maybe_resources rs (plain.a_block ss (plain.a_list catch several
+      last))))) = tried (resources rs) (stmts ss) (clauses several) (last_block last)
   stmt (plain.Row word _) = tree.Empty
 
   pub stmts : plain.Stmts → tree.Stmts
   stmts no_stmt = tree.no_stmt
-  stmts (stmt_then s ss) = tree.stmt_then (stmt s) (stmts ss)
+  stmts (stmt_then s ss) = tree.put_before (stmt s) (stmts ss)
+
+  pub groups : plain.Groups → tree.Groups
+  groups plain.no_group = tree.no_group
+  groups (plain.group_then labels ss gs) = tree.group_then (map label labels) (stmts ss) (groups gs)
+
+  pub clauses : plain.Several → tree.Catches
+  clauses plain.no_row = tree.no_catch
+  clauses (plain.row_then row more) = tree.catch_then (ident []) (clause row) (clauses more)
+
+  pub clause : plain.Pieces → tree.Stmts
+  clause (plain.a_catch_parameter p (plain.a_block ss rest)) = stmts ss
+  clause _ = tree.no_stmt
+
+  pub last_block : plain.Pieces → Option tree.Stmts
+  last_block (plain.present word (plain.a_block ss rest) more) = Some (stmts ss)
+  last_block _ = None
 
 -- ---- texts, with a space between two tokens
 

@@ -64,4 +64,4 @@ pub use expressions::{accesses, kinds_of_expressions, names, operators, values};
 pub use methods::{
     ends_of_methods, fields_of_objects, first_methods, locks_of_methods, unread_fields,
 };
-pub use statements::{blocks, branches, loops, returns, variables};
+pub use statements::{blocks, branches, jumps, loops, returns, throws, variables};

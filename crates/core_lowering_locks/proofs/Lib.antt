@@ -1,3 +1,4 @@
 mod Operators
 pub mod JoinedStatements
 mod Cuts
+pub mod Unlocking

@@ -1,5 +1,5 @@
 -- Operators, literals and assignments are no names, no `this` and no calls.
-use Rattle.std.proofs.Common.{◌≡◌, ◌≤◌, Bool, true, false, cond, List, [], ◌∷◌, ℕ, Option, None, Box, Global, map}
+use Rattle.std.proofs.Common.{◌≡◌, ◌≤◌, Bool, true, false, cond, List, [], ◌∷◌, ℕ, None, Box, Global, map}
 use Rattle.std.proofs.Common.{length}
 use Rattle.std.proofs.Common.{refl, sym, ap, ◌∙◌, codes, rules, arith}
 use Rattle.std.specs.Prelude.{bytes_eq}
@@ -15,11 +15,11 @@ use Rattle.core_lowering_rules.specs.Trees.{Assign, Combine, is_this, simple_nam
 use Rattle.core_lowering_rules.specs.TreesOf.{binary, prefix, assignment, literal, is_logical, is_count, is_assignment}
 use Rattle.core_lowering_rules.specs.TreesOf.{access_of, expr_of}
 
-either : {A : Type 0} (f : Expr → A) (x : A) (b : Bool) (s t : Expr) → x ≡ f s → x ≡ f t → x ≡ f (cond b s t)
+pub either : {A : Type 0} (f : Expr → A) (x : A) (b : Bool) (s t : Expr) → x ≡ f s → x ≡ f t → x ≡ f (cond b s t)
 either f x true s t p q = p
 either f x false s t p q = q
 
-literal-in : {A : Type 0} (f : Expr → A) (x : A) (k : TokenKind) (text : List ℕ) → x ≡ f Text → x ≡ f Null →
+pub literal-in : {A : Type 0} (f : Expr → A) (x : A) (k : TokenKind) (text : List ℕ) → x ≡ f Text → x ≡ f Null →
     x ≡ f Prim → x ≡ f (literal k text)
 literal-in f x token.Text text a b c = a
 literal-in f x token.Fixed text a b c = either f x (bytes_eq text (codes "null")) Null Prim b c

@@ -1,13 +1,14 @@
 -- A contract of a public call rests on this: what is seen of calls, locks and items, in the words of the lowering.
-use Rattle.std.specs.Prelude.{◌≡◌, ◌<◌, ◌≤◌, ℕ, Option, Some, None, List, length, map}
+use Rattle.std.specs.Prelude.{◌≡◌, ◌<◌, ◌≤◌, ℕ, Option, Some, None, List, [], ◌∷◌, length, map, Bool, true}
+use Rattle.std.specs.Prelude.{false}
 use denote.Param.Weighed.{most}
 use Rattle.racer_base.specs.declared.ids.Place.{Place}
 use Rattle.java_tree.specs.declared.words.Ident.{Ident}
 use Rattle.java_tree.specs.declared.statements.Statement.{Statement, size-Statement}
 use Rattle.java_tree.specs.declared.statements.TryTree.{TryTree, out-TryTree, size-TryTree}
-use Rattle.core_lowering_rules.specs.Trees.{Expr, Stmt, Stmts, Catches, stmt_then, Locked, Try, lock_before}
-use Rattle.core_lowering_rules.specs.Trees.{pack_stmts, pack_catches}
-use Rattle.core_lowering_rules.specs.TreesOf.{expr_of, stmt_of, catch_of, try_of}
+use Rattle.core_lowering_rules.specs.Trees.{Expr, Stmt, Stmts, Catches, stmt_then, Locked, Finally, Resource}
+use Rattle.core_lowering_rules.specs.Trees.{lock_before, pack_stmts, pack_catches}
+use Rattle.core_lowering_rules.specs.TreesOf.{expr_of, stmt_of, catch_of, try_of, resources_of}
 use Rattle.core_lowering_locks.specs.declared.calls.PlainCall.{PlainCall}
 use Rattle.core_lowering_locks.specs.declared.pairs.Lock.{Lock}
 use Rattle.core_lowering_locks.specs.declared.pairs.Locked as pair
@@ -20,8 +21,9 @@ call_seen call = (expr_of call.on.now, call.name.now)
 abbrev pub lock_seen : Lock → Place × Expr
 lock_seen lock = (lock.place, expr_of lock.on.now)
 
+-- the `finally` of a `try` without resources
 abbrev pub finally_of : Stmt → Option Stmts
-finally_of (Try body catches finally) = Some finally
+finally_of (Finally [] body catches finally) = Some finally
 finally_of _ = None
 
 abbrev pub lock_for : Stmt → Option Stmts → Option (Place × Expr)
@@ -39,6 +41,17 @@ body_of t = pack_stmts (map stmt_of (out-TryTree t).body.items)
 
 abbrev pub clauses_of : TryTree → Catches
 clauses_of t = pack_catches (map catch_of (out-TryTree t).clauses.items)
+
+abbrev pub resources_in : TryTree → List Resource
+resources_in t = resources_of (out-TryTree t).resources
+
+-- whether there are resources
+abbrev pub stand : List Resource → Bool
+stand [] = false
+stand (r ∷ rs) = true
+
+abbrev pub has_resource : TryTree → Bool
+has_resource t = stand (resources_in t)
 
 -- under what is locked before it
 abbrev pub under : Place × Expr → TryTree → Stmt

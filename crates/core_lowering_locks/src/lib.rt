@@ -6,6 +6,9 @@
 mod calls;
 mod names;
 mod pairs;
+mod unlocking_values;
+mod unlocks;
 
 pub use names::{own_name, simple_name};
 pub use pairs::{Item, Lock, Locked, first_item};
+pub use unlocks::do_unlock_any;

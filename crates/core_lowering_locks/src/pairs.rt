@@ -5,7 +5,7 @@ ghost use Rattle.core_lowering_rules.specs.Trees.{stmt_then, pack_stmts};
 ghost use Rattle.core_lowering_rules.specs.Trees as wanted;
 ghost use Rattle.core_lowering_rules.specs.TreesOf.{stmt_of, try_of};
 ghost use Rattle.core_lowering_locks.specs.Seen.{lock_seen, lock_behind, locked_seen, item_seen, item_size};
-ghost use Rattle.core_lowering_locks.specs.Seen.{IsLockedTry, IsLocked, IsCut};
+ghost use Rattle.core_lowering_locks.specs.Seen.{has_resource, IsLockedTry, IsLocked, IsCut};
 
 use crate::calls::{do_unlock, run_call};
 use java_tree::{Expression, Statement, TryTree};
@@ -47,11 +47,20 @@ fn lock_before<'a>(statement: &'a Statement, finally: &[Statement]) -> Option<Lo
     None
 }
 
+fn has_resource(tried: &TryTree) -> bool
+    ensures { result ≡ has_resource tried.now }
+{
+    match &tried.resources {
+        Some(resources) => !resources.get().items.as_slice().is_empty(),
+        None => false,
+    }
+}
+
 /// What a statement locks before this `try`, where the two are one.
 fn lock_of_try<'a>(statement: &'a Statement, tried: &TryTree) -> Option<Lock<'a>>
     ensures { option_map lock_seen result ≡ lock_behind (stmt_of statement.now) (try_of tried.now) }
 {
-    if tried.resources.is_some() {
+    if has_resource(tried) {
         return None;
     }
     match &tried.finally {

@@ -1,12 +1,12 @@
--- A contract of a public call rests on this: what is seen of a `Draft`.
-use Rattle.std.specs.Prelude.{◌≡◌, map, take, length}
+-- A contract of a public call rests on this: what is seen of a draft while it is made.
+use Rattle.std.specs.Prelude.{◌≡◌, take, length}
+use Rattle.core_lowering_drafts.specs.Pieces.{all_parts}
 use Rattle.core_lowering_rules.specs.Context.{Code}
-use Rattle.core_lowering_methods.specs.declared.draft.Draft.{Draft}
-use Rattle.core_lowering_methods.specs.Erased.{part_of}
+use Rattle.core_lowering_methods.specs.declared.making.Making.{Making}
 
--- the parts so far, in which no operation has its site yet
-unfoldable pub code_of : Draft → Code
-code_of draft = map part_of draft.parts.items
+-- the parts so far
+unfoldable pub code_of : Making → Code
+code_of making = all_parts making.pieces.items
 
 -- what was there is a front of what is there
 abbrev pub IsFrontOf : Code → Code → Type 0

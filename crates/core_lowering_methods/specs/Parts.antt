@@ -28,24 +28,26 @@ use Rattle.core_lowering_methods.specs.declared.calls.Callee.TheVariants as call
 use Rattle.core_lowering_methods.specs.Views.{folder_of}
 
 -- where a method of a class begins, before its parameters
-abbrev pub entered_in : Table → List (Option Reason) → Place → Result → ClassId → (is_static : Bool) → Context
-entered_in table statuses place result class is_static =
+abbrev pub entered_in : Table → List (Option Reason) → Place → Result → Kind → ClassId → (is_static : Bool) → Context
+entered_in table statuses place result given class is_static =
     record {
       folder = folder_of table statuses;
       place = place;
       result = result;
+      given = given;
       scope = record { class = class; is_static = is_static; variables = [] };
       kinds = if is_static then [] else Declared class ∷ [];
+      exits = 0;
+      labels = [];
+      targets = [];
+      guards = [];
       other_lock = false;
+      is_apart = false;
     }
 
 -- with the variables before this one in scope
 abbrev pub left_at : ℕ → Context → Context
 left_at at context = record context { scope = record context.scope { variables = take at context.scope.variables } }
-
--- with the variables before this one in scope, and so many of all
-abbrev pub forgotten : ℕ → ℕ → Context → Context
-forgotten at count context = record (left_at at context) { kinds = take count context.kinds }
 
 abbrev pub with_other_lock : Context → Context
 with_other_lock context = record context { other_lock = true }

@@ -1,18 +1,26 @@
 //! The ends of blocks (JLS 14.2).
-ghost use Rattle.std.specs.Prelude.{◌≡◌, ◌++◌, OnOk};
+ghost use Rattle.std.specs.Prelude.{◌≡◌, OnOk};
 ghost use Rattle.core_lowering_methods.specs.Drafts.{code_of};
 ghost use Rattle.core_lowering_methods.specs.Parts.{left_at};
-ghost use Rattle.core_lowering_methods.specs.Steps.{closed_from};
+ghost use Rattle.core_lowering_methods.specs.StatementSteps.{Becomes, closed_from};
 
-use crate::{Context, Draft};
+use crate::{Context, Making};
 use racer_base::Memory;
+use std::alloc::Global;
 
-/// The end of a block: the variables from this one on are null, and out of scope.
-pub fn end_block(context: &mut Context, draft: &mut Draft, before: usize) -> Result<(), Memory>
+/// The end of a block that is there from this part on: the variables from this one on are null, and out of scope.
+pub fn end_block(
+    alloc: Global,
+    context: &mut Context,
+    draft: &mut Making,
+    before: usize,
+    at: usize,
+) -> Result<(), Memory>
     ensures context { OnOk result (context.new ≡ left_at before context.old) }
-    ensures code { OnOk result (code_of draft.new ≡ code_of draft.old ++ closed_from before context.old) }
+    ensures code { OnOk result (Becomes at (closed_from before context.old) (code_of draft.old) (code_of draft.new)) }
 {
-    context.clear(draft, before)?;
+    let variables = context.variables_from(alloc, before)?;
+    draft.end(alloc, context.place(), variables, at)?;
     context.leave(before);
     Ok(())
 }

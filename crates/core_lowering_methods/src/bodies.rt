@@ -1,127 +1,88 @@
 //! The code of methods and constructors (JLS 8.3.2, 8.4, 8.8, 12.5).
-ghost use Rattle.std.specs.Prelude.{◌≡◌, [], ◌++◌, OnOk, IfOk};
-ghost use Rattle.std.specs.List.{flat_map};
+ghost use Rattle.std.specs.Prelude.{◌≡◌, [], ◌++◌, OnOk, IfOk, None, codes, false, not};
+ghost use Rattle.java_resolver.specs.Words.{has_word};
 ghost use Rattle.core_code.specs.Tree.{tree_of, in_sequence};
-ghost use Rattle.core_lowering_rules.specs.Methods.{Default, Spelled, Unspelled, result_of, result_of_tree, entered};
-ghost use Rattle.core_lowering_rules.specs.Methods.{parameters_declared, body_of, body_code, ended, spelled_code};
-ghost use Rattle.core_lowering_rules.specs.Methods.{code_in, other_lock_in, has_other_lock};
-ghost use Rattle.core_lowering_rules.specs.Methods.{kinds_in, member_begun, method_code, method_kinds};
+ghost use Rattle.core_lowering_drafts.specs.Sizes.{is_small};
+ghost use Rattle.core_lowering_drafts.specs.Written.{code_of};
+ghost use Rattle.core_lowering_methods.specs.Drafts as path;
+ghost use Rattle.core_lowering_rules.specs.Context.{made};
+ghost use Rattle.core_lowering_rules.specs.Scopes.{after_all, back_in};
+ghost use Rattle.core_lowering_rules.specs.Statements.{closed, returned, stmts};
+ghost use Rattle.core_lowering_rules.specs.Methods as wanted;
+ghost use Rattle.core_lowering_rules.specs.Methods.{Default, Spelled, Unspelled, entered};
+ghost use Rattle.core_lowering_rules.specs.Methods.{body_of, code_in, kinds_in, end_of};
+ghost use Rattle.core_lowering_rules.specs.Methods.{has_other_lock, is_apart, is_past_limit, method_code, method_kinds};
 ghost use Rattle.core_lowering_rules.specs.Sites.{numbered};
-ghost use Rattle.core_lowering_methods.specs.Drafts.{code_of};
-ghost use Rattle.core_lowering_methods.specs.Views.{given_of, folder_of};
+ghost use Rattle.core_lowering_methods.specs.Bodies.{inside, object_begun, owner_pushed, under_lock, with_end};
+ghost use Rattle.core_lowering_methods.specs.Bodies.{whole_code, kept_code, Tells};
+ghost use Rattle.core_lowering_methods.specs.Extents.{is_past, IsBodyCounted, IsCounted};
 ghost use Rattle.core_lowering_methods.specs.Parts.{left_at};
 ghost use Rattle.core_lowering_methods.specs.Sources.{source_of};
-ghost use Rattle.core_lowering_methods.specs.Sources as seen;
-ghost use Rattle.core_lowering_methods.specs.Steps.{fields_first, block_end};
+ghost use Rattle.core_lowering_methods.specs.Views.{folder_of};
 
+use crate::entered::{enter, enter_spelled};
 use crate::fields::begin_members;
 use crate::returns::lower_return_nothing;
 use crate::sources::{Body, Source};
 use crate::statements::lower_block;
-use crate::{Context, Draft, MethodResult};
+use crate::{Context, Making};
 use core_code::{Code, LockKind, Reason};
-use java_resolver::{MethodInfo, Table, has_word};
-use java_tree::{Member, MethodTree, ParameterTree, ResultTree};
-use racer_base::{Items, Kind, Memory};
+use core_lowering_drafts::{Asked, Draft, Stop, Written, write, write_small};
+use java_resolver::{Table, has_word};
+use java_tree::{MethodTree, ResultTree};
+use racer_base::{Items, Kind, Memory, Place};
 use std::alloc::Global;
 
-/// The code of a method, the kinds of its variables, and whether it has a lock that is that of no lock field.
+/// Whether the code of a method's block, as it is where no method is analysed, is within the limit.
+#[derive(Clone, Copy)]
+pub enum Extent {
+    Within,
+    Past,
+}
+
+/// The code of a method and the kinds of its variables.
 #[derive(Drop)]
 pub struct Lowered {
     pub code: Code,
     pub kinds: Items<Kind>,
-    pub other_lock: bool,
 }
 
-// ---- where the code begins
+/// What is known of a method before it is known which methods are analysed: its code and the kinds of its variables,
+/// where none is; whether a `finally` of it unlocks what is locked by no lock field before its `try`; whether a jump of
+/// it has no target, or a resource of it is closed by a method of the folder; and how large its code is.
+#[derive(Drop)]
+pub struct Survey {
+    pub lowered: Lowered,
+    pub has_other_lock: bool,
+    pub is_apart: bool,
+    pub extent: Extent,
+}
 
-/// What a method of a tree gives, where a value of it has this kind.
-fn given_by_tree(kind: Kind, tree: &ResultTree) -> MethodResult
-    ensures { given_of result ≡ result_of_tree kind tree.now }
+// ---- code that no limit is told of
+
+/// Writes a draft, of whatever size its code is.
+fn write_all(alloc: Global, draft: &Draft, written: &mut Written) -> Result<(), Memory>
+    ensures { OnOk result (code_of written.new ≡ code_of written.old ++ made draft.now) }
 {
-    match tree {
-        ResultTree::Constructor => MethodResult::Itself,
-        ResultTree::Void => MethodResult::Nothing,
-        ResultTree::Of(_) => MethodResult::Value(kind),
+    match write(alloc, draft, Asked::all(), written) {
+        Ok(()) => Ok(()),
+        Err(_) => Err(Memory),
     }
 }
 
-/// What a method gives.
-fn given_by(info: &MethodInfo, body: &Body) -> MethodResult
-    ensures { given_of result ≡ result_of info.now.result (seen.body_of body.now) }
-{
-    match body {
-        Body::Default => MethodResult::Itself,
-        Body::Spelled(m) => given_by_tree(info.result, &m.result),
-        Body::Unspelled => MethodResult::Value(info.result),
-    }
-}
+// ---- what the code is made of
 
-/// Before the parameters.
-fn enter<'a>(
-    alloc: Global,
-    table: &'a Table,
-    statuses: &'a [Option<Reason>],
-    source: &Source,
-) -> Result<Context<'a>, Memory>
-    ensures { IfOk result (λ context. context ≡ entered (folder_of table.now statuses.now) (source_of source.now)) }
-{
-    let info = source.info;
-    let given = given_by(info, &source.body);
-    Context::new(
-        alloc,
-        table,
-        statuses,
-        info.place,
-        given,
-        info.class,
-        info.is_static,
-    )
-}
-
-fn declare_parameters(
-    alloc: Global,
-    context: &mut Context,
-    parameters: &[ParameterTree],
-) -> Result<(), Memory>
-    ensures { OnOk result (context.new ≡ parameters_declared context.old parameters.now) }
-{
-    for parameter in parameters {
-        let kind = context.type_kind(&parameter.kind);
-        context.declare(alloc, kind, &parameter.name)?;
-    }
-    Ok(())
-}
-
-/// Behind the parameters.
-fn enter_spelled<'a>(
-    alloc: Global,
-    table: &'a Table,
-    statuses: &'a [Option<Reason>],
-    source: &Source,
-    m: &MethodTree,
-) -> Result<Context<'a>, Memory>
-    ensures { IfOk result (λ context. context
-        ≡ parameters_declared (entered (folder_of table.now statuses.now) (source_of source.now)) m.now.parameters) }
-{
-    let mut context = enter(alloc, table, statuses, source)?;
-    declare_parameters(alloc, &mut context, m.parameters.as_slice())?;
-    Ok(context)
-}
-
-// ---- what the body is made of
-
-/// Of a constructor, the fields of its object, without variables in scope.
+/// Puts the fields of its object, of a constructor, without variables in scope.
 fn begin_object(
     alloc: Global,
     table: &Table,
     statuses: &[Option<Reason>],
     source: &Source,
     m: &MethodTree,
-    draft: &mut Draft,
+    making: &mut Making,
 ) -> Result<(), Memory>
-    ensures { OnOk result (code_of draft.new ≡ code_of draft.old ++ fields_first (left_at 0 (parameters_declared
-        (entered (folder_of table.now statuses.now) (source_of source.now)) m.now.parameters))
+    ensures { OnOk result (path.code_of making.new ≡ path.code_of making.old ++ object_begun
+        (left_at 0 (inside (folder_of table.now statuses.now) (source_of source.now) m.now))
         source.now.members.now m.now) }
 {
     if !matches!(m.result, ResultTree::Constructor) {
@@ -129,55 +90,241 @@ fn begin_object(
     }
     let mut bare = enter_spelled(alloc, table, statuses, source, m)?;
     bare.leave(0);
-    begin_members(alloc, &bare, source.members, draft)
+    begin_members(alloc, &bare, source.members, making)
 }
 
-/// The body of a method, under a lock where it is synchronized (JLS 8.4.3.6).
-fn lower_body(
+/// Of a constructor, the fields of its object.
+fn fields_of(
     alloc: Global,
-    context: &mut Context,
+    table: &Table,
+    statuses: &[Option<Reason>],
+    source: &Source,
     m: &MethodTree,
-    draft: &mut Draft,
-) -> Result<(), Memory>
-    ensures context { OnOk result (context.new ≡ block_end context.old (body_of m.now)) }
-    ensures code { OnOk result (code_of draft.new ≡ code_of draft.old ++ body_code context.old m.now) }
+) -> Result<Draft, Memory>
+    ensures { IfOk result (λ fields. fields ≡ object_begun
+        (left_at 0 (inside (folder_of table.now statuses.now) (source_of source.now) m.now))
+        source.now.members.now m.now) }
+{
+    let mut making = Making::new(alloc);
+    begin_object(alloc, table, statuses, source, m, &mut making)?;
+    making.taken(alloc, 0)
+}
+
+/// The object or the class that a synchronized method is locked by (JLS 8.4.3.6).
+fn owner_of(alloc: Global, context: &Context, m: &MethodTree) -> Result<Draft, Memory>
+    ensures { IfOk result (λ owner. owner ≡ owner_pushed context.now m.now) }
+{
+    let mut making = Making::new(alloc);
+    if has_word(m.modifiers.as_slice(), "synchronized") {
+        context.push_owner(&mut making)?;
+    }
+    making.taken(alloc, 0)
+}
+
+/// `return;`, before anything is lowered.
+fn last_of(alloc: Global, context: &mut Context) -> Result<Draft, Memory>
+    requires { context.old.guards ≡ [] }
+    ensures context { OnOk result (context.new ≡ context.old) }
+    ensures code { IfOk result (λ last. last ≡ returned context.old None) }
+{
+    let mut making = Making::new(alloc);
+    lower_return_nothing(context, &mut making)?;
+    making.taken(alloc, 0)
+}
+
+fn block_of(alloc: Global, context: &mut Context, m: &MethodTree) -> Result<Draft, Memory>
+    ensures context { OnOk result (context.new
+        ≡ back_in context.old (after_all context.old (body_of m.now))) }
+    ensures code { IfOk result (λ block. block ≡ closed context.old (after_all context.old (body_of m.now))
+        (stmts context.old (body_of m.now))) }
+{
+    let mut making = Making::new(alloc);
+    lower_block(alloc, context, m.body.as_slice(), &mut making)?;
+    making.taken(alloc, 0)
+}
+
+/// What the code of a method is made of: the fields of its object, what it is locked by, its block, and what is done at
+/// its end.
+#[derive(Drop)]
+struct Parts {
+    fields: Draft,
+    owner: Draft,
+    block: Draft,
+    last: Draft,
+}
+
+fn parts_of(
+    alloc: Global,
+    table: &Table,
+    statuses: &[Option<Reason>],
+    source: &Source,
+    m: &MethodTree,
+    context: &mut Context,
+) -> Result<Parts, Memory>
+    requires { context.old ≡ inside (folder_of table.now statuses.now) (source_of source.now) m.now }
+    ensures context { OnOk result (context.new
+        ≡ back_in context.old (after_all context.old (body_of m.now))) }
+    ensures fields { IfOk result (λ parts. parts.fields
+        ≡ object_begun (left_at 0 context.old) source.now.members.now m.now) }
+    ensures owner { IfOk result (λ parts. parts.owner ≡ owner_pushed context.old m.now) }
+    ensures block { IfOk result (λ parts. parts.block ≡ closed context.old (after_all context.old (body_of m.now))
+        (stmts context.old (body_of m.now))) }
+    ensures last { IfOk result (λ parts. parts.last ≡ returned context.old None) }
+{
+    let fields = fields_of(alloc, table, statuses, source, m)?;
+    let owner = owner_of(alloc, context, m)?;
+    let last = last_of(alloc, context)?;
+    let block = block_of(alloc, context, m)?;
+    Ok(Parts {
+        fields,
+        owner,
+        block,
+        last,
+    })
+}
+
+// ---- code
+
+/// What the code of a block is written in: the room of so many tokens, or as much as it takes.
+#[derive(Clone, Copy)]
+enum Limit {
+    Tokens(u32),
+    Free,
+}
+
+fn write_block(
+    alloc: Global,
+    block: &Draft,
+    limit: Limit,
+    written: &mut Written,
+) -> Result<(), Stop>
+    ensures code { OnOk result (code_of written.new ≡ code_of written.old ++ made block.now) }
+    ensures size { Tells limit block.now result }
+{
+    match limit {
+        Limit::Tokens(tokens) => write_small(alloc, block, tokens, written),
+        Limit::Free => Ok(write_all(alloc, block, written)?),
+    }
+}
+
+/// What is written next stands under a lock.
+fn enter_lock(written: &mut Written) -> Result<(), Memory>
+    ensures { OnOk result (code_of written.new ≡ code_of written.old) }
+{
+    match written.enter() {
+        Ok(()) => Ok(()),
+        Err(_) => Err(Memory),
+    }
+}
+
+/// The block, under a lock where the method is synchronized (JLS 8.4.3.6).
+fn write_body(
+    alloc: Global,
+    place: Place,
+    m: &MethodTree,
+    block: &Draft,
+    limit: Limit,
+    written: &mut Written,
+) -> Result<(), Stop>
+    ensures code { OnOk result (code_of written.new ≡ code_of written.old
+        ++ under_lock place (has_word (codes "synchronized") m.now.modifiers) (made block.now)) }
+    ensures size { Tells limit block.now result }
 {
     if !has_word(m.modifiers.as_slice(), "synchronized") {
-        return lower_block(alloc, context, m.body.as_slice(), draft);
+        return write_block(alloc, block, limit, written);
     }
-    context.push_owner(draft)?;
-    let place = context.place();
-    let body = draft.len();
-    lower_block(alloc, context, m.body.as_slice(), draft)?;
-    draft.hold(alloc, LockKind::Own, place, body)
+    enter_lock(written)?;
+    let at = written.len();
+    write_block(alloc, block, limit, written)?;
+    written.hold(alloc, LockKind::Own, place, at)?;
+    Ok(())
 }
 
-/// An end that can be reached is as `return;`.
-fn end(context: &Context, draft: &mut Draft) -> Result<(), Memory>
-    ensures { OnOk result (code_of draft.new ≡ ended context.now (code_of draft.old)) }
+/// An end that can be reached.
+fn write_end(alloc: Global, last: &Draft, written: &mut Written) -> Result<(), Memory>
+    ensures { OnOk result (code_of written.new ≡ with_end last.now (code_of written.old)) }
 {
-    if draft.can_end() {
-        lower_return_nothing(context, draft)
+    if written.can_end() {
+        write_all(alloc, last, written)
     } else {
         Ok(())
     }
 }
 
-// ---- methods
-
-/// The fields of an object, and the end of its constructor.
-fn lower_fields(
+fn whole(
     alloc: Global,
-    context: &Context,
-    members: &[Member],
-    draft: &mut Draft,
-) -> Result<(), Memory>
-    ensures { OnOk result (code_of draft.new ≡ ended context.now
-        (code_of draft.old ++ flat_map (member_begun context.now) members.now)) }
+    place: Place,
+    m: &MethodTree,
+    parts: &Parts,
+    limit: Limit,
+) -> Result<Code, Stop>
+    ensures code { IfOk result (λ code. tree_of code ≡ numbered 0 (in_sequence (whole_code parts.now.fields
+        parts.now.owner place (has_word (codes "synchronized") m.now.modifiers) parts.now.block parts.now.last))) }
+    ensures size { Tells limit parts.now.block result }
 {
-    begin_members(alloc, context, members, draft)?;
-    end(context, draft)
+    let mut written = Written::new(alloc);
+    write_all(alloc, &parts.fields, &mut written)?;
+    write_all(alloc, &parts.owner, &mut written)?;
+    write_body(alloc, place, m, &parts.block, limit, &mut written)?;
+    write_end(alloc, &parts.last, &mut written)?;
+    Ok(written.into_code())
 }
+
+fn no_code(alloc: Global) -> Code
+    ensures { tree_of result ≡ numbered 0 (in_sequence []) }
+{
+    Written::new(alloc).into_code()
+}
+
+/// Code that is within the limit, or none, and which.
+#[derive(Drop)]
+struct Measured {
+    code: Code,
+    extent: Extent,
+}
+
+fn measure(alloc: Global, place: Place, m: &MethodTree, parts: &Parts) -> Result<Measured, Memory>
+    ensures code { IfOk result (λ measured. tree_of measured.code ≡ numbered 0 (in_sequence
+        (kept_code (is_past measured.extent) (whole_code parts.now.fields parts.now.owner place
+        (has_word (codes "synchronized") m.now.modifiers) parts.now.block parts.now.last)))) }
+    ensures extent { IfOk result (λ measured. is_past measured.extent
+        ≡ not (is_small m.now.tokens (in_sequence (made parts.now.block)))) }
+{
+    match whole(alloc, place, m, parts, Limit::Tokens(m.tokens)) {
+        Ok(code) => Ok(Measured {
+            code,
+            extent: Extent::Within,
+        }),
+        Err(Stop::TooLarge) => Ok(Measured {
+            code: no_code(alloc),
+            extent: Extent::Past,
+        }),
+        Err(Stop::Memory) => Err(Memory),
+    }
+}
+
+/// Code of which it is known whether it is within the limit.
+fn known_code(
+    alloc: Global,
+    place: Place,
+    m: &MethodTree,
+    parts: &Parts,
+    extent: Extent,
+) -> Result<Code, Memory>
+    ensures { IfOk result (λ code. tree_of code ≡ numbered 0 (in_sequence
+        (kept_code (is_past extent) (whole_code parts.now.fields parts.now.owner place
+        (has_word (codes "synchronized") m.now.modifiers) parts.now.block parts.now.last)))) }
+{
+    if matches!(extent, Extent::Past) {
+        return Ok(no_code(alloc));
+    }
+    match whole(alloc, place, m, parts, Limit::Free) {
+        Ok(code) => Ok(code),
+        Err(_) => Err(Memory),
+    }
+}
+
+// ---- methods
 
 /// The constructor that a class has without declaring it.
 fn lower_default(
@@ -190,39 +337,19 @@ fn lower_default(
         (entered (folder_of table.now statuses.now) (source_of source.now)) (source_of source.now) Default))) }
     ensures kinds { IfOk result (λ lowered. lowered.kinds ≡ kinds_in
         (entered (folder_of table.now statuses.now) (source_of source.now)) (source_of source.now) Default) }
-    ensures locks { IfOk result (λ lowered. lowered.other_lock ≡ other_lock_in
-        (entered (folder_of table.now statuses.now) (source_of source.now)) Default) }
 {
-    let context = enter(alloc, table, statuses, source)?;
-    let mut draft = Draft::new(alloc);
-    lower_fields(alloc, &context, source.members, &mut draft)?;
+    let mut context = enter(alloc, table, statuses, source)?;
+    let mut making = Making::new(alloc);
+    begin_members(alloc, &context, source.members, &mut making)?;
+    let fields = making.taken(alloc, 0)?;
+    let last = last_of(alloc, &mut context)?;
+    let mut written = Written::new(alloc);
+    write_all(alloc, &fields, &mut written)?;
+    write_end(alloc, &last, &mut written)?;
     Ok(Lowered {
-        code: draft.into_code(),
+        code: written.into_code(),
         kinds: context.into_kinds(),
-        other_lock: false,
     })
-}
-
-/// The code of a tree, behind its parameters.
-fn lower_tree(
-    alloc: Global,
-    table: &Table,
-    statuses: &[Option<Reason>],
-    source: &Source,
-    m: &MethodTree,
-    context: &mut Context,
-    draft: &mut Draft,
-) -> Result<(), Memory>
-    requires entered { context.old
-        ≡ parameters_declared (entered (folder_of table.now statuses.now) (source_of source.now)) m.now.parameters }
-    requires start { code_of draft.old ≡ [] }
-    ensures context { OnOk result (context.new ≡ block_end context.old (body_of m.now)) }
-    ensures code { OnOk result (code_of draft.new
-        ≡ ended context.old (spelled_code context.old source.now.members.now m.now)) }
-{
-    begin_object(alloc, table, statuses, source, m, draft)?;
-    lower_body(alloc, context, m, draft)?;
-    end(context, draft)
 }
 
 /// A method that a tree spells.
@@ -232,20 +359,20 @@ fn lower_spelled(
     statuses: &[Option<Reason>],
     source: &Source,
     m: &MethodTree,
+    extent: Extent,
 ) -> Result<Lowered, Memory>
+    requires { is_past extent
+        ≡ wanted.is_past (entered (folder_of table.now []) (source_of source.now)) (Spelled m.now) }
     ensures code { IfOk result (λ lowered. tree_of lowered.code ≡ numbered 0 (in_sequence (code_in
         (entered (folder_of table.now statuses.now) (source_of source.now)) (source_of source.now) (Spelled m.now)))) }
     ensures kinds { IfOk result (λ lowered. lowered.kinds ≡ kinds_in
         (entered (folder_of table.now statuses.now) (source_of source.now)) (source_of source.now) (Spelled m.now)) }
-    ensures locks { IfOk result (λ lowered. lowered.other_lock ≡ other_lock_in
-        (entered (folder_of table.now statuses.now) (source_of source.now)) (Spelled m.now)) }
 {
     let mut context = enter_spelled(alloc, table, statuses, source, m)?;
-    let mut draft = Draft::new(alloc);
-    lower_tree(alloc, table, statuses, source, m, &mut context, &mut draft)?;
+    let parts = parts_of(alloc, table, statuses, source, m, &mut context)?;
+    let code = known_code(alloc, source.info.place, m, &parts, extent)?;
     Ok(Lowered {
-        code: draft.into_code(),
-        other_lock: context.other_lock(),
+        code,
         kinds: context.into_kinds(),
     })
 }
@@ -261,16 +388,13 @@ fn lower_unspelled(
         (entered (folder_of table.now statuses.now) (source_of source.now)) (source_of source.now) Unspelled))) }
     ensures kinds { IfOk result (λ lowered. lowered.kinds ≡ kinds_in
         (entered (folder_of table.now statuses.now) (source_of source.now)) (source_of source.now) Unspelled) }
-    ensures locks { IfOk result (λ lowered. lowered.other_lock ≡ other_lock_in
-        (entered (folder_of table.now statuses.now) (source_of source.now)) Unspelled) }
 {
     let entered = enter(alloc, table, statuses, source)?;
     let mut kinds = entered.into_kinds().into_vec();
     kinds.extend_from_slice(source.info.parameters.as_slice())?;
     Ok(Lowered {
-        code: Draft::new(alloc).into_code(),
+        code: no_code(alloc),
         kinds: Items::from(kinds),
-        other_lock: false,
     })
 }
 
@@ -280,17 +404,89 @@ pub fn lower_method(
     table: &Table,
     statuses: &[Option<Reason>],
     source: &Source,
+    extent: Extent,
 ) -> Result<Lowered, Memory>
+    requires { is_past extent ≡ is_past_limit (folder_of table.now []) (source_of source.now) }
     ensures code { IfOk result (λ lowered. tree_of lowered.code ≡ numbered 0 (in_sequence
         (method_code (folder_of table.now statuses.now) (source_of source.now)))) }
     ensures kinds { IfOk result (λ lowered. lowered.kinds
         ≡ method_kinds (folder_of table.now statuses.now) (source_of source.now)) }
-    ensures locks { IfOk result (λ lowered. lowered.other_lock
-        ≡ has_other_lock (folder_of table.now statuses.now) (source_of source.now)) }
 {
     match &source.body {
         Body::Default => lower_default(alloc, table, statuses, source),
-        Body::Spelled(m) => lower_spelled(alloc, table, statuses, source, m),
+        Body::Spelled(m) => lower_spelled(alloc, table, statuses, source, m, extent),
         Body::Unspelled => lower_unspelled(alloc, table, statuses, source),
+    }
+}
+
+// ---- before it is known which methods are analysed
+
+/// A method in which there are no jumps and no locks.
+fn plain(lowered: Lowered) -> Survey
+    ensures lowered { result.lowered ≡ lowered }
+    ensures locks { result.has_other_lock ≡ false }
+    ensures apart { result.is_apart ≡ false }
+    ensures extent { is_past result.extent ≡ false }
+{
+    Survey {
+        lowered,
+        has_other_lock: false,
+        is_apart: false,
+        extent: Extent::Within,
+    }
+}
+
+fn survey_spelled(
+    alloc: Global,
+    table: &Table,
+    source: &Source,
+    m: &MethodTree,
+) -> Result<Survey, Memory>
+    requires { IsBodyCounted (Spelled m.now) }
+    ensures code { IfOk result (λ survey. tree_of survey.lowered.code ≡ numbered 0 (in_sequence (code_in
+        (entered (folder_of table.now []) (source_of source.now)) (source_of source.now) (Spelled m.now)))) }
+    ensures kinds { IfOk result (λ survey. survey.lowered.kinds ≡ kinds_in
+        (entered (folder_of table.now []) (source_of source.now)) (source_of source.now) (Spelled m.now)) }
+    ensures locks { IfOk result (λ survey. survey.has_other_lock
+        ≡ (end_of (entered (folder_of table.now []) (source_of source.now)) (Spelled m.now)).other_lock) }
+    ensures apart { IfOk result (λ survey. survey.is_apart
+        ≡ (end_of (entered (folder_of table.now []) (source_of source.now)) (Spelled m.now)).is_apart) }
+    ensures extent { IfOk result (λ survey. is_past survey.extent
+        ≡ wanted.is_past (entered (folder_of table.now []) (source_of source.now)) (Spelled m.now)) }
+{
+    let mut context = enter_spelled(alloc, table, &[], source, m)?;
+    let parts = parts_of(alloc, table, &[], source, m, &mut context)?;
+    let measured = measure(alloc, source.info.place, m, &parts)?;
+    let has_other_lock = context.other_lock();
+    let is_apart = context.is_apart();
+    Ok(Survey {
+        lowered: Lowered {
+            code: measured.code,
+            kinds: context.into_kinds(),
+        },
+        has_other_lock,
+        is_apart,
+        extent: measured.extent,
+    })
+}
+
+/// What is known of a method before it is known which methods are analysed.
+pub fn survey_method(alloc: Global, table: &Table, source: &Source) -> Result<Survey, Memory>
+    requires { IsCounted (source_of source.now) }
+    ensures code { IfOk result (λ survey. tree_of survey.lowered.code ≡ numbered 0 (in_sequence
+        (method_code (folder_of table.now []) (source_of source.now)))) }
+    ensures kinds { IfOk result (λ survey. survey.lowered.kinds
+        ≡ method_kinds (folder_of table.now []) (source_of source.now)) }
+    ensures locks { IfOk result (λ survey. survey.has_other_lock
+        ≡ has_other_lock (folder_of table.now []) (source_of source.now)) }
+    ensures apart { IfOk result (λ survey. survey.is_apart
+        ≡ is_apart (folder_of table.now []) (source_of source.now)) }
+    ensures extent { IfOk result (λ survey. is_past survey.extent
+        ≡ is_past_limit (folder_of table.now []) (source_of source.now)) }
+{
+    match &source.body {
+        Body::Default => Ok(plain(lower_default(alloc, table, &[], source)?)),
+        Body::Spelled(m) => survey_spelled(alloc, table, source, m),
+        Body::Unspelled => Ok(plain(lower_unspelled(alloc, table, &[], source)?)),
     }
 }

@@ -15,7 +15,7 @@ ghost use Rattle.core_lowering_methods.specs.Parts.{maker_of, made_front, made_k
 ghost use Rattle.core_lowering_methods.specs.Together.{target_callee, target_front, target_end};
 
 use crate::context::Context;
-use crate::draft::Draft;
+use crate::making::Making;
 use crate::numbers::number_of;
 use crate::value_kind::ValueKind;
 use core_code::Op;
@@ -152,7 +152,7 @@ fn call_at(
     place: Place,
     m: MethodId,
     count: u32,
-    draft: &mut Draft,
+    draft: &mut Making,
 ) -> Result<(), Memory>
     ensures { OnOk result (code_of draft.new ≡ code_of draft.old ++ call_at context.now place m count) }
 {
@@ -169,7 +169,7 @@ fn call_object(
     place: Place,
     m: MethodId,
     count: u32,
-    draft: &mut Draft,
+    draft: &mut Making,
 ) -> Result<(), Memory>
     ensures { OnOk result (code_of draft.new ≡ code_of draft.old ++ call_at context.now place m (suc count)) }
 {
@@ -178,7 +178,7 @@ fn call_object(
 }
 
 /// What is not the folder's, with so many values and one more.
-pub fn call_outside(context: &Context, count: u32, draft: &mut Draft) -> Result<(), Memory>
+pub fn call_outside(context: &Context, count: u32, draft: &mut Making) -> Result<(), Memory>
     ensures code { OnOk result (code_of draft.new ≡ code_of draft.old ++ op context.now (Outside (suc count))) }
     ensures err { OnErr result (code_of draft.new ≡ code_of draft.old) }
 {
@@ -191,7 +191,7 @@ pub fn begin_call(
     context: &Context,
     target: Target,
     callee: Callee,
-    draft: &mut Draft,
+    draft: &mut Making,
 ) -> Result<(), Memory>
     ensures { OnOk result (code_of draft.new ≡ code_of draft.old
         ++ target_front context.now target (callee_seen callee)) }
@@ -211,7 +211,7 @@ fn end_on(
     place: Place,
     count: u32,
     callee: Callee,
-    draft: &mut Draft,
+    draft: &mut Making,
 ) -> Result<(), Memory>
     ensures { OnOk result (code_of draft.new ≡ code_of draft.old
         ++ target_end context.now target place count (callee_seen callee)) }
@@ -234,7 +234,7 @@ pub fn finish_call(
     place: Place,
     count: u32,
     callee: Callee,
-    draft: &mut Draft,
+    draft: &mut Making,
 ) -> Result<ValueKind, Memory>
     ensures code { OnOk result (code_of draft.new ≡ code_of draft.old
         ++ target_end context.now target place count (callee_seen callee)) }
@@ -268,7 +268,7 @@ fn maker_of(context: &Context, kind: Kind, count: u32) -> Option<(ClassId, Metho
 fn push_new(
     place: Place,
     maker: Option<(ClassId, MethodId)>,
-    draft: &mut Draft,
+    draft: &mut Making,
 ) -> Result<(), Memory>
     ensures { OnOk result (code_of draft.new ≡ code_of draft.old ++ made_front place maker) }
 {
@@ -284,7 +284,7 @@ pub fn begin_new(
     place: Place,
     t: &TypeTree,
     count: usize,
-    draft: &mut Draft,
+    draft: &mut Making,
 ) -> Result<Option<(ClassId, MethodId)>, Memory>
     ensures code { OnOk result (code_of draft.new ≡ code_of draft.old
         ++ made_front place (maker_of context.now (type_kind context.now (ty_of t.now)) count)) }
@@ -312,7 +312,7 @@ fn end_new(
     place: Place,
     count: u32,
     maker: Option<(ClassId, MethodId)>,
-    draft: &mut Draft,
+    draft: &mut Making,
 ) -> Result<(), Memory>
     ensures { OnOk result (code_of draft.new ≡ code_of draft.old ++ made_end context.now place count maker) }
 {
@@ -329,7 +329,7 @@ pub fn finish_new(
     t: &TypeTree,
     count: usize,
     maker: Option<(ClassId, MethodId)>,
-    draft: &mut Draft,
+    draft: &mut Making,
 ) -> Result<ValueKind, Memory>
     ensures code { OnOk result (code_of draft.new ≡ code_of draft.old ++ made_end context.now place count maker) }
     ensures kind { IfOk result (λ k. value_kind k ≡ Of (type_kind context.now (ty_of t.now))) }

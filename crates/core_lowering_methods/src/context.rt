@@ -1,8 +1,7 @@
 //! What an expression or a statement stands in.
-ghost use Rattle.std.specs.Prelude.{◌≡◌, ◌++◌, [], length, take, drop, flat_map, OnOk, OnErr, IfOk, option_copied};
+ghost use Rattle.std.specs.Prelude.{◌≡◌, ◌++◌, length, OnOk, OnErr, IfOk, option_copied};
 ghost use Rattle.racer_base.specs.declared.ids.Kind.{Kind};
 ghost use Rattle.java_tree.specs.View.{ty_of};
-ghost use Rattle.core_code.specs.declared.code.Op.TheVariants.{PushNull};
 ghost use Rattle.java_resolver.specs.Declarations.{class_names};
 ghost use Rattle.java_resolver.specs.Meanings.{field_named, found};
 ghost use Rattle.java_resolver.specs.TypeKinds.{class_named};
@@ -10,42 +9,52 @@ ghost use Rattle.core_lowering_rules.specs.Context.{Code, op, converted, push_th
 ghost use Rattle.core_lowering_rules.specs.Context.{type_kind, is_analysed};
 ghost use Rattle.core_lowering_rules.specs.Assignments.{field_at};
 ghost use Rattle.core_lowering_rules.specs.Calls.{info_at};
-ghost use Rattle.core_lowering_rules.specs.Scopes.{declared, next_variable};
-ghost use Rattle.core_lowering_rules.specs.Statements.{cleared, set};
-ghost use Rattle.core_lowering_methods.specs.Drafts.{code_of, IsFrontOf};
+ghost use Rattle.core_lowering_rules.specs.Scopes.{declared, next_variable, is_closed_by};
+ghost use Rattle.core_lowering_methods.specs.Drafts.{code_of};
+ghost use Rattle.core_lowering_methods.specs.Restored.{variables_from, with_apart, with_closing};
 ghost use Rattle.core_lowering_methods.specs.Views.{value_kind, given_of};
-ghost use Rattle.core_lowering_methods.specs.Parts.{entered_in, left_at, forgotten, with_other_lock};
+ghost use Rattle.core_lowering_methods.specs.Parts.{entered_in, left_at, with_other_lock};
 
-use crate::draft::Draft;
 use crate::given::MethodResult;
+use crate::making::Making;
 use crate::numbers::number_of;
+use crate::targets::{Guard, Target};
 use crate::value_kind::{ValueKind, is_converted};
 use crate::variables::Variables;
 use core_code::{Op, Reason};
-use java_resolver::{FieldInfo, Meaning, MethodInfo, ScopeVariable, Table};
+use java_resolver::{FieldInfo, Meaning, MethodInfo, Table};
 use java_tree::{Ident, TypeTree};
-use racer_base::{ClassId, FieldId, Items, Kind, Memory, MethodId, Place, VarId};
+use racer_base::{ClassId, FieldId, Items, Kind, Memory, MethodId, Place, Text, VarId};
 use std::alloc::Global;
 use std::marker::Model;
 
 /// The folder and why its methods are not analysed; of the method its place, what it gives, its class and whether it is
-/// static; the variables in scope; the kinds of all variables so far, and whether a lock so far is that of no lock
-/// field.
+/// static; the variables in scope; the kinds of all variables so far; how many exits are open; the labels of the
+/// statement that comes, where jumps and where returns lead, the innermost last; whether a lock so far is that of no
+/// lock field, and whether something so far sets the method apart.
 #[derive(Drop)]
 pub struct Context<'a> {
     table: &'a Table,
     statuses: &'a [Option<Reason>],
     place: Place,
-    given: MethodResult,
+    result: MethodResult,
+    pub(crate) given: Kind,
     class: ClassId,
     is_static: bool,
-    variables: Variables,
-    kinds: Vec<Kind>,
+    pub(crate) variables: Variables,
+    pub(crate) kinds: Vec<Kind>,
+    pub(crate) exits: u32,
+    pub(crate) labels: Vec<Text>,
+    pub(crate) targets: Vec<Target>,
+    pub(crate) guards: Vec<Guard>,
     other_lock: bool,
+    pub(crate) is_apart: bool,
 }
 
 impl<'a> Model for Context<'a> {
+    ghost use Rattle.std.specs.Prelude.{reverse};
     ghost use Rattle.core_lowering_rules.specs.Context.{Context};
+    ghost use Rattle.core_lowering_methods.specs.Exits.{guards_seen};
     ghost use Rattle.core_lowering_methods.specs.Views.{folder_of, given_of};
 
     ghost Value = { Context };
@@ -53,10 +62,16 @@ impl<'a> Model for Context<'a> {
     ghost view = { λ context. record {
       folder = folder_of context.table.now context.statuses.now;
       place = context.place;
-      result = given_of context.given;
+      result = given_of context.result;
+      given = context.given;
       scope = record { class = context.class; is_static = context.is_static; variables = context.variables };
       kinds = context.kinds.items;
+      exits = context.exits;
+      labels = reverse context.labels.items;
+      targets = reverse context.targets.items;
+      guards = guards_seen context.guards.items;
       other_lock = context.other_lock;
+      is_apart = context.is_apart;
     } };
 }
 
@@ -67,12 +82,13 @@ impl<'a> Context<'a> {
         table: &'a Table,
         statuses: &'a [Option<Reason>],
         place: Place,
-        given: MethodResult,
+        method_result: MethodResult,
+        given: Kind,
         class: ClassId,
         is_static: bool,
     ) -> Result<Context<'a>, Memory>
         ensures { IfOk result (λ context. context
-            ≡ entered_in table.now statuses.now place (given_of given) class is_static) }
+            ≡ entered_in table.now statuses.now place (given_of method_result) given class is_static) }
     {
         let mut kinds = Vec::new(alloc);
         if !is_static {
@@ -82,12 +98,18 @@ impl<'a> Context<'a> {
             table,
             statuses,
             place,
+            result: method_result,
             given,
             class,
             is_static,
             variables: Variables::new(alloc),
             kinds,
+            exits: 0,
+            labels: Vec::new(alloc),
+            targets: Vec::new(alloc),
+            guards: Vec::new(alloc),
             other_lock: false,
+            is_apart: false,
         })
     }
 
@@ -95,7 +117,7 @@ impl<'a> Context<'a> {
     pub fn given(&self) -> MethodResult
         ensures { given_of result ≡ self.now.result }
     {
-        self.given
+        self.result
     }
 
     /// The place of the method.
@@ -189,7 +211,7 @@ impl<'a> Context<'a> {
     }
 
     /// Puts an operation at the place of the method.
-    pub fn op(&self, draft: &mut Draft, operation: Op) -> Result<(), Memory>
+    pub fn op(&self, draft: &mut Making, operation: Op) -> Result<(), Memory>
         ensures code { OnOk result (code_of draft.new ≡ code_of draft.old ++ op self.now operation) }
         ensures err { OnErr result (code_of draft.new ≡ code_of draft.old) }
     {
@@ -199,7 +221,7 @@ impl<'a> Context<'a> {
     /// Puts an operation at the place of the method, which leaves a value of this kind.
     pub(crate) fn value(
         &self,
-        draft: &mut Draft,
+        draft: &mut Making,
         operation: Op,
         kind: ValueKind,
     ) -> Result<ValueKind, Memory>
@@ -209,7 +231,7 @@ impl<'a> Context<'a> {
         draft.value(self.place, operation, kind)
     }
 
-    pub fn push_this(&self, draft: &mut Draft) -> Result<(), Memory>
+    pub fn push_this(&self, draft: &mut Making) -> Result<(), Memory>
         ensures code { OnOk result (code_of draft.new ≡ code_of draft.old ++ push_this self.now) }
         ensures err { OnErr result (code_of draft.new ≡ code_of draft.old) }
     {
@@ -217,7 +239,7 @@ impl<'a> Context<'a> {
     }
 
     /// `this` of an instance method, the class of a static one.
-    pub fn push_owner(&self, draft: &mut Draft) -> Result<(), Memory>
+    pub fn push_owner(&self, draft: &mut Making) -> Result<(), Memory>
         ensures code { OnOk result (code_of draft.new ≡ code_of draft.old ++ push_owner self.now) }
         ensures err { OnErr result (code_of draft.new ≡ code_of draft.old) }
     {
@@ -229,7 +251,7 @@ impl<'a> Context<'a> {
     }
 
     /// What a value goes through on its way to a kind.
-    pub fn convert(&self, draft: &mut Draft, kind: Kind, given: ValueKind) -> Result<(), Memory>
+    pub fn convert(&self, draft: &mut Making, kind: Kind, given: ValueKind) -> Result<(), Memory>
         ensures code { OnOk result (code_of draft.new ≡ code_of draft.old ++ converted self.now kind (value_kind given)) }
         ensures err { OnErr result (code_of draft.new ≡ code_of draft.old) }
     {
@@ -265,21 +287,6 @@ impl<'a> Context<'a> {
         self.variables.leave(at);
     }
 
-    /// How many variables there are so far.
-    pub fn count(&self) -> usize
-        ensures { result ≡ length self.now.kinds }
-    {
-        self.kinds.len()
-    }
-
-    /// Forgets the variables from these numbers on, in scope and among all.
-    pub fn forget(&mut self, at: usize, count: usize)
-        ensures { self.new ≡ forgotten at count self.old }
-    {
-        self.variables.leave(at);
-        self.kinds.truncate(count);
-    }
-
     /// Notes that a lock is that of no lock field.
     pub fn note_other_lock(&mut self)
         ensures { self.new ≡ with_other_lock self.old }
@@ -294,40 +301,52 @@ impl<'a> Context<'a> {
         self.other_lock
     }
 
-    /// Sets a variable to null.
-    fn clear_variable(&self, v: VarId, draft: &mut Draft) -> Result<(), Memory>
-        ensures code { OnOk result (code_of draft.new
-            ≡ code_of draft.old ++ (op self.now PushNull ++ set self.now v)) }
-        ensures err { OnErr result (IsFrontOf (code_of draft.old) (code_of draft.new)) }
+    /// The variables in scope from this one on.
+    pub fn variables_from(&self, alloc: Global, at: usize) -> Result<Vec<VarId>, Memory>
+        ensures { IfOk result (λ variables. variables.items ≡ variables_from at self.now) }
     {
-        self.op(draft, Op::PushNull)?;
-        self.op(draft, Op::Set(v))?;
-        self.op(draft, Op::Drop)
-    }
-
-    /// Sets these variables to null.
-    fn clear_all(&self, variables: &[ScopeVariable], draft: &mut Draft) -> Result<(), Memory>
-        ensures code { OnOk result (code_of draft.new
-            ≡ code_of draft.old ++ flat_map (cleared self.now) variables.now) }
-        ensures err { OnErr result (IsFrontOf (code_of draft.old) (code_of draft.new)) }
-    {
-        for variable in variables {
-            self.clear_variable(variable.id, draft)?;
-        }
-        Ok(())
-    }
-
-    /// Sets the variables from this one on to null.
-    pub fn clear(&self, draft: &mut Draft, at: usize) -> Result<(), Memory>
-        ensures code { OnOk result (code_of draft.new ≡ code_of draft.old
-            ++ flat_map (cleared self.now) (drop at self.now.scope.variables)) }
-        ensures err { OnErr result (IsFrontOf (code_of draft.old) (code_of draft.new)) }
-    {
+        let mut all = Vec::new(alloc);
         let variables = self.variables.as_slice();
         if variables.len() < at {
-            return Ok(());
+            return Ok(all);
         }
-        self.clear_all(&variables[at..], draft)
+        for variable in &variables[at..] {
+            all.push(variable.id)?;
+        }
+        Ok(all)
+    }
+
+    /// Notes what sets the method apart: a jump without a target, or a resource that the folder closes.
+    pub fn note_apart(&mut self)
+        ensures { self.new ≡ with_apart self.old }
+    {
+        self.is_apart = true;
+    }
+
+    pub fn is_apart(&self) -> bool
+        ensures { result ≡ self.now.is_apart }
+    {
+        self.is_apart
+    }
+
+    /// Whether a method of the folder closes a resource of this kind.
+    fn is_closed(&self, kind: Kind) -> bool
+        ensures { result ≡ is_closed_by self.now kind }
+    {
+        match kind {
+            Kind::Declared(c) => self.find(c, "close", 0).is_some(),
+            Kind::Plain => false,
+            Kind::Other => false,
+        }
+    }
+
+    /// Notes whether a method of the folder closes a resource of this kind.
+    pub fn note_closing(&mut self, kind: Kind)
+        ensures { self.new ≡ with_closing kind self.old }
+    {
+        if self.is_closed(kind) {
+            self.is_apart = true;
+        }
     }
 
     /// The kinds of all variables so far.

@@ -14,8 +14,8 @@ ghost use Rattle.core_lowering_methods.specs.declared.storage.Storage.TheVariant
 
 use crate::calls::Target;
 use crate::context::Context;
-use crate::draft::Draft;
 use crate::invocations::{lower_arguments, lower_call, lower_call_on, lower_new};
+use crate::making::Making;
 use crate::names::{class_before, class_object, this_object};
 use crate::operators::{cast, is_count, literal};
 use crate::storage::{Storage, of_class, of_name, of_value, read};
@@ -34,7 +34,7 @@ pub fn lower_expression(
     alloc: Global,
     context: &Context,
     e: &Expression,
-    draft: &mut Draft,
+    draft: &mut Making,
 ) -> Result<ValueKind, Memory>
     ensures code { OnOk result (code_of draft.new ≡ code_of draft.old ++ code context.now (expr_of e.now)) }
     ensures kind { IfOk result (λ k. value_kind k ≡ kind context.now (expr_of e.now)) }
@@ -72,7 +72,7 @@ fn lower_storage(
     alloc: Global,
     context: &Context,
     e: &Expression,
-    draft: &mut Draft,
+    draft: &mut Making,
 ) -> Result<Storage, Memory>
     ensures code { OnOk result (code_of draft.new ≡ code_of draft.old
         ++ base_of (storage context.now (access_of (expr_of e.now)))) }
@@ -93,7 +93,7 @@ fn lower_selected(
     context: &Context,
     a: &Expression,
     x: &Ident,
-    draft: &mut Draft,
+    draft: &mut Making,
 ) -> Result<Storage, Memory>
     ensures code { OnOk result (code_of draft.new ≡ code_of draft.old
         ++ base_of (storage context.now (Selected (expr_of a.now) x.now))) }
@@ -113,7 +113,7 @@ fn lower_element(
     context: &Context,
     a: &Expression,
     i: &Expression,
-    draft: &mut Draft,
+    draft: &mut Making,
 ) -> Result<Storage, Memory>
     ensures code { OnOk result (code_of draft.new ≡ code_of draft.old
         ++ (code context.now (expr_of a.now) ++ code context.now (expr_of i.now))) }
@@ -130,7 +130,7 @@ fn lower_read(
     alloc: Global,
     context: &Context,
     e: &Expression,
-    draft: &mut Draft,
+    draft: &mut Making,
 ) -> Result<ValueKind, Memory>
     ensures code { OnOk result (code_of draft.new ≡ code_of draft.old
         ++ code context.now (Read (access_of (expr_of e.now)))) }
@@ -148,7 +148,7 @@ fn lower_assign(
     a: &Expression,
     op: &str,
     b: &Expression,
-    draft: &mut Draft,
+    draft: &mut Making,
 ) -> Result<ValueKind, Memory>
     ensures code { OnOk result (code_of draft.new ≡ code_of draft.old
         ++ code context.now (assignment op.now (access_of (expr_of a.now)) (expr_of b.now))) }
@@ -168,7 +168,7 @@ fn lower_prefix(
     context: &Context,
     a: &Expression,
     op: &str,
-    draft: &mut Draft,
+    draft: &mut Making,
 ) -> Result<ValueKind, Memory>
     ensures code { OnOk result (code_of draft.new ≡ code_of draft.old
         ++ code context.now (prefix op.now (expr_of a.now))) }
@@ -189,7 +189,7 @@ fn lower_cast(
     context: &Context,
     a: &Expression,
     t: &TypeTree,
-    draft: &mut Draft,
+    draft: &mut Making,
 ) -> Result<ValueKind, Memory>
     ensures code { OnOk result (code_of draft.new ≡ code_of draft.old
         ++ code context.now (Cast (ty_of t.now) (expr_of a.now))) }
@@ -207,7 +207,7 @@ fn lower_operator(
     a: &Expression,
     op: &str,
     b: &Expression,
-    draft: &mut Draft,
+    draft: &mut Making,
 ) -> Result<ValueKind, Memory>
     ensures code { OnOk result (code_of draft.new ≡ code_of draft.old
         ++ code context.now (binary op.now (expr_of a.now) (expr_of b.now))) }
@@ -228,7 +228,7 @@ fn lower_conditional(
     c: &Expression,
     a: &Expression,
     b: &Expression,
-    draft: &mut Draft,
+    draft: &mut Making,
 ) -> Result<ValueKind, Memory>
     ensures code { OnOk result (code_of draft.new ≡ code_of draft.old
         ++ code context.now (Conditional (expr_of c.now) (expr_of a.now) (expr_of b.now))) }
@@ -250,7 +250,7 @@ fn lower_lengths(
     context: &Context,
     lengths: &[Expression],
     place: Place,
-    draft: &mut Draft,
+    draft: &mut Making,
 ) -> Result<ValueKind, Memory>
     ensures code { OnOk result (code_of draft.new ≡ code_of draft.old
         ++ code context.now (NewArray place (pack_exprs (map expr_of lengths.now)))) }
@@ -267,7 +267,7 @@ fn lower_array(
     context: &Context,
     items: &[Initialiser],
     place: Place,
-    draft: &mut Draft,
+    draft: &mut Making,
 ) -> Result<ValueKind, Memory>
     ensures code { OnOk result (code_of draft.new ≡ code_of draft.old
         ++ code context.now (NewItems place (pack_inits (map init_of items.now)))) }
@@ -285,7 +285,7 @@ pub fn lower_initialiser(
     alloc: Global,
     context: &Context,
     initialiser: &Initialiser,
-    draft: &mut Draft,
+    draft: &mut Making,
 ) -> Result<ValueKind, Memory>
     ensures code { OnOk result (code_of draft.new ≡ code_of draft.old
         ++ init_code context.now (init_of initialiser.now)) }

@@ -6,7 +6,7 @@ ghost use Rattle.core_lowering_rules.specs.Methods.{field_begun, member_begun, u
 ghost use Rattle.core_lowering_methods.specs.Drafts.{code_of};
 ghost use Rattle.core_lowering_methods.specs.Views.{value_kind};
 
-use crate::{Context, Draft, ValueKind, assign, lower_initialiser, of_name};
+use crate::{Context, Making, ValueKind, assign, lower_initialiser, of_name};
 use core_code::Op;
 use java_resolver::has_word;
 use java_tree::{FieldInitialiser, FieldVariable, Ident, Initialiser, Member};
@@ -19,7 +19,7 @@ fn begin_formed(
     context: &Context,
     x: &Ident,
     initialiser: &Initialiser,
-    draft: &mut Draft,
+    draft: &mut Making,
 ) -> Result<(), Memory>
     ensures { OnOk result (code_of draft.new ≡ code_of draft.old
         ++ field_begun context.now x.now (Formed initialiser.now)) }
@@ -31,7 +31,7 @@ fn begin_formed(
 }
 
 /// A value that is not read.
-fn push_unread(context: &Context, kind: ValueKind, draft: &mut Draft) -> Result<(), Memory>
+fn push_unread(context: &Context, kind: ValueKind, draft: &mut Making) -> Result<(), Memory>
     ensures { OnOk result (code_of draft.new ≡ code_of draft.old ++ unread context.now (value_kind kind)) }
 {
     match kind {
@@ -41,7 +41,7 @@ fn push_unread(context: &Context, kind: ValueKind, draft: &mut Draft) -> Result<
 }
 
 /// A field that begins with what has no tree.
-fn begin_unread(context: &Context, x: &Ident, draft: &mut Draft) -> Result<(), Memory>
+fn begin_unread(context: &Context, x: &Ident, draft: &mut Making) -> Result<(), Memory>
     ensures { OnOk result (code_of draft.new ≡ code_of draft.old ++ field_begun context.now x.now Unread) }
 {
     let storage = of_name(context, x, draft)?;
@@ -55,7 +55,7 @@ fn begin_field(
     alloc: Global,
     context: &Context,
     field: &FieldVariable,
-    draft: &mut Draft,
+    draft: &mut Making,
 ) -> Result<(), Memory>
     ensures { OnOk result (code_of draft.new ≡ code_of draft.old
         ++ field_begun context.now field.now.name field.now.initialiser) }
@@ -78,7 +78,7 @@ fn begin_variables(
     alloc: Global,
     context: &Context,
     fields: &[FieldVariable],
-    draft: &mut Draft,
+    draft: &mut Making,
 ) -> Result<(), Memory>
     ensures { OnOk result (code_of draft.new ≡ code_of draft.old
         ++ flat_map (λ v. field_begun context.now v.name v.initialiser) fields.now) }
@@ -94,7 +94,7 @@ fn begin_member(
     alloc: Global,
     context: &Context,
     member: &Member,
-    draft: &mut Draft,
+    draft: &mut Making,
 ) -> Result<(), Memory>
     ensures { OnOk result (code_of draft.new ≡ code_of draft.old ++ member_begun context.now member.now) }
 {
@@ -115,7 +115,7 @@ pub fn begin_members(
     alloc: Global,
     context: &Context,
     members: &[Member],
-    draft: &mut Draft,
+    draft: &mut Making,
 ) -> Result<(), Memory>
     ensures { OnOk result (code_of draft.new ≡ code_of draft.old ++ flat_map (member_begun context.now) members.now) }
 {

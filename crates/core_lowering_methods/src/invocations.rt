@@ -13,8 +13,8 @@ use crate::calls::{
     Target, begin_call, begin_new, callee_on, finish_call, finish_new, made_kinds, passed_kinds,
 };
 use crate::context::Context;
-use crate::draft::Draft;
 use crate::expressions::lower_expression;
+use crate::making::Making;
 use crate::names::class_before;
 use crate::numbers::number_of;
 use crate::value_kind::ValueKind;
@@ -28,7 +28,7 @@ fn convert_at(
     kinds: &[Kind],
     index: usize,
     given: ValueKind,
-    draft: &mut Draft,
+    draft: &mut Making,
 ) -> Result<(), Memory>
     ensures { OnOk result (code_of draft.new ≡ code_of draft.old
         ++ converted_first context.now (drop index kinds.now) (value_kind given)) }
@@ -46,7 +46,7 @@ pub fn lower_arguments(
     context: &Context,
     arguments: &[Expression],
     kinds: &[Kind],
-    draft: &mut Draft,
+    draft: &mut Making,
 ) -> Result<(), Memory>
     ensures { OnOk result (code_of draft.new ≡ code_of draft.old
         ++ passed context.now kinds.now (pack_exprs (map expr_of arguments.now))) }
@@ -66,7 +66,7 @@ pub fn lower_call(
     arguments: &[Expression],
     target: Target,
     x: &Ident,
-    draft: &mut Draft,
+    draft: &mut Making,
 ) -> Result<ValueKind, Memory>
     ensures code { OnOk result (code_of draft.new ≡ code_of draft.old
         ++ target_call context.now target x.now (pack_exprs (map expr_of arguments.now))) }
@@ -94,7 +94,7 @@ pub fn lower_call_on(
     e: &Expression,
     x: &Ident,
     arguments: &[Expression],
-    draft: &mut Draft,
+    draft: &mut Making,
 ) -> Result<ValueKind, Memory>
     ensures code { OnOk result (code_of draft.new ≡ code_of draft.old
         ++ code context.now (CallOn (expr_of e.now) x.now (pack_exprs (map expr_of arguments.now)))) }
@@ -116,7 +116,7 @@ pub fn lower_new(
     arguments: &[Expression],
     place: Place,
     t: &TypeTree,
-    draft: &mut Draft,
+    draft: &mut Making,
 ) -> Result<ValueKind, Memory>
     ensures code { OnOk result (code_of draft.new ≡ code_of draft.old
         ++ code context.now (New place (ty_of t.now) (pack_exprs (map expr_of arguments.now)))) }

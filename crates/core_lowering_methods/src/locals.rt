@@ -9,7 +9,7 @@ ghost use Rattle.core_lowering_rules.specs.Statements as lowering;
 ghost use Rattle.core_lowering_methods.specs.Drafts.{code_of};
 
 use crate::parts::{lower_run_all, set};
-use crate::{Context, Draft, lower_initialiser};
+use crate::{Context, Making, lower_initialiser};
 use java_tree::{Initialiser, LocalsTree, StartTree, VariableTree};
 use racer_base::{Kind, Memory, VarId};
 use std::alloc::Global;
@@ -21,7 +21,7 @@ fn lower_begin(
     v: VarId,
     kind: Kind,
     initialiser: &Option<Initialiser>,
-    draft: &mut Draft,
+    draft: &mut Making,
 ) -> Result<(), Memory>
     ensures { OnOk result (code_of draft.new ≡ code_of draft.old
         ++ begun context.now v kind (option_map init_of initialiser.now)) }
@@ -40,7 +40,7 @@ fn lower_variable(
     context: &mut Context,
     kind: Kind,
     variable: &VariableTree,
-    draft: &mut Draft,
+    draft: &mut Making,
 ) -> Result<(), Memory>
     ensures context { OnOk result (context.new ≡ declared context.old kind variable.now.name) }
     ensures code { OnOk result (code_of draft.new ≡ code_of draft.old
@@ -57,7 +57,7 @@ fn lower_variables(
     context: &mut Context,
     kind: Kind,
     variables: &[VariableTree],
-    draft: &mut Draft,
+    draft: &mut Making,
 ) -> Result<(), Memory>
     ensures context { OnOk result (context.new ≡ all_declared context.old kind (map variable_of variables.now)) }
     ensures code { OnOk result (code_of draft.new ≡ code_of draft.old
@@ -74,7 +74,7 @@ pub fn lower_locals(
     alloc: Global,
     context: &mut Context,
     locals: &LocalsTree,
-    draft: &mut Draft,
+    draft: &mut Making,
 ) -> Result<(), Memory>
     ensures context { OnOk result (context.new
         ≡ all_declared context.old (type_kind context.old (ty_of locals.now.kind))
@@ -92,7 +92,7 @@ pub fn lower_start(
     alloc: Global,
     context: &mut Context,
     start: &StartTree,
-    draft: &mut Draft,
+    draft: &mut Making,
 ) -> Result<(), Memory>
     ensures context { OnOk result (context.new ≡ started context.old (start_of start.now)) }
     ensures code { OnOk result (code_of draft.new ≡ code_of draft.old

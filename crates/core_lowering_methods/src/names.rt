@@ -11,7 +11,7 @@ ghost use Rattle.core_lowering_methods.specs.Drafts.{code_of};
 ghost use Rattle.core_lowering_methods.specs.Views.{value_kind};
 
 use crate::context::Context;
-use crate::draft::Draft;
+use crate::making::Making;
 use crate::value_kind::ValueKind;
 use core_code::Op;
 use java_resolver::Meaning;
@@ -52,7 +52,7 @@ fn class_written(context: &Context, names: &[Ident]) -> Option<ClassId>
 pub fn class_object(
     context: &Context,
     names: &[Ident],
-    draft: &mut Draft,
+    draft: &mut Making,
 ) -> Result<ValueKind, Memory>
     ensures code { OnOk result (code_of draft.new ≡ code_of draft.old
         ++ class_object context.now (class_written context.now names.now)) }
@@ -65,7 +65,7 @@ pub fn class_object(
 }
 
 /// `this`
-pub fn this_object(context: &Context, draft: &mut Draft) -> Result<ValueKind, Memory>
+pub fn this_object(context: &Context, draft: &mut Making) -> Result<ValueKind, Memory>
     ensures code { OnOk result (code_of draft.new ≡ code_of draft.old ++ this_object context.now) }
     ensures kind { IfOk result (λ k. value_kind k ≡ this_kind context.now) }
 {

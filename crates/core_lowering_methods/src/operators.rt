@@ -7,7 +7,7 @@ ghost use Rattle.core_lowering_methods.specs.Drafts.{code_of};
 ghost use Rattle.core_lowering_methods.specs.Views.{value_kind};
 
 use crate::context::Context;
-use crate::draft::Draft;
+use crate::making::Making;
 use crate::value_kind::ValueKind;
 use core_code::Op;
 use java_lexer::TokenKind;
@@ -36,7 +36,7 @@ pub fn literal(
     context: &Context,
     token: TokenKind,
     text: &str,
-    draft: &mut Draft,
+    draft: &mut Making,
 ) -> Result<ValueKind, Memory>
     ensures code { OnOk result (code_of draft.new ≡ code_of draft.old ++ code context.now (literal token text.now)) }
     ensures kind { IfOk result (λ k. value_kind k ≡ kind context.now (literal token text.now)) }
@@ -49,7 +49,7 @@ pub fn literal(
 }
 
 /// A value on its way through a cast to a kind.
-pub fn cast(context: &Context, kind: Kind, draft: &mut Draft) -> Result<ValueKind, Memory>
+pub fn cast(context: &Context, kind: Kind, draft: &mut Making) -> Result<ValueKind, Memory>
     ensures code { OnOk result (code_of draft.new ≡ code_of draft.old ++ cast context.now kind) }
     ensures kind { IfOk result (λ k. value_kind k ≡ Of kind) }
 {

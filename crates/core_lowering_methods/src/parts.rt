@@ -1,13 +1,13 @@
 //! Parts of statements: expressions whose values are not used, and stores to variables (JLS 14.8, 14.9).
-ghost use Rattle.std.specs.Prelude.{◌≡◌, ◌++◌, OnOk, map, option_map};
+ghost use Rattle.std.specs.Prelude.{◌≡◌, ◌++◌, OnOk, map};
 ghost use Rattle.core_lowering_rules.specs.Trees.{pack_exprs};
 ghost use Rattle.core_lowering_rules.specs.TreesOf.{expr_of};
-ghost use Rattle.core_lowering_rules.specs.Statements.{run, run_all, run_some, set};
+ghost use Rattle.core_lowering_rules.specs.Statements.{run, run_all, set};
 ghost use Rattle.core_lowering_methods.specs.Drafts.{code_of};
 
-use crate::{Context, Draft, lower_expression};
+use crate::{Context, Making, lower_expression};
 use core_code::Op;
-use java_tree::{Apart, Expression};
+use java_tree::Expression;
 use racer_base::{Memory, VarId};
 use std::alloc::Global;
 
@@ -16,7 +16,7 @@ pub fn lower_run(
     alloc: Global,
     context: &Context,
     e: &Expression,
-    draft: &mut Draft,
+    draft: &mut Making,
 ) -> Result<(), Memory>
     ensures { OnOk result (code_of draft.new ≡ code_of draft.old ++ run context.now (expr_of e.now)) }
 {
@@ -29,7 +29,7 @@ pub fn lower_run_all(
     alloc: Global,
     context: &Context,
     all: &[Expression],
-    draft: &mut Draft,
+    draft: &mut Making,
 ) -> Result<(), Memory>
     ensures { OnOk result (code_of draft.new ≡ code_of draft.old
         ++ run_all context.now (pack_exprs (map expr_of all.now))) }
@@ -40,23 +40,8 @@ pub fn lower_run_all(
     Ok(())
 }
 
-/// Such an expression, where there is one.
-pub fn lower_run_some(
-    alloc: Global,
-    context: &Context,
-    e: &Option<Apart<Expression>>,
-    draft: &mut Draft,
-) -> Result<(), Memory>
-    ensures { OnOk result (code_of draft.new ≡ code_of draft.old ++ run_some context.now (option_map expr_of e.now)) }
-{
-    match e {
-        Some(e) => lower_run(alloc, context, e.get(), draft),
-        None => Ok(()),
-    }
-}
-
 /// Stores the value on top of the stack.
-pub fn set(context: &Context, v: VarId, draft: &mut Draft) -> Result<(), Memory>
+pub fn set(context: &Context, v: VarId, draft: &mut Making) -> Result<(), Memory>
     ensures { OnOk result (code_of draft.new ≡ code_of draft.old ++ set context.now v) }
 {
     context.op(draft, Op::Set(v))?;

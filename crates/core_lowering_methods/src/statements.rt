@@ -1,34 +1,61 @@
 //! The code of statements (JLS 14).
-ghost use Rattle.std.specs.Prelude.{◌≡◌, ◌++◌, OnOk, map, option_map};
-ghost use Rattle.java_tree.specs.View.{ty_of};
-ghost use Rattle.core_lowering_rules.specs.Trees.{If, IfElse, While, For, ForEach, Sync, Block, pack_exprs, pack_stmts};
-ghost use Rattle.core_lowering_rules.specs.Trees.{pack_catches};
-ghost use Rattle.core_lowering_rules.specs.TreesOf.{expr_of, start_of, stmt_of, catch_of};
-ghost use Rattle.core_lowering_rules.specs.Scopes.{after, after_all, caught};
-ghost use Rattle.core_lowering_rules.specs.Statements.{stmt, stmts};
-ghost use Rattle.core_lowering_locks.specs.Seen.{item_seen, lock_seen, under};
+ghost use Rattle.std.specs.Prelude.{◌≡◌, ◌++◌, [], OnOk, map};
+ghost use Rattle.core_lowering_rules.specs.Trees.{If, IfElse, Sync, Block, Throw, pack_stmts};
+ghost use Rattle.core_lowering_rules.specs.TreesOf.{expr_of, stmt_of};
+ghost use Rattle.core_lowering_rules.specs.Context.{choice};
+ghost use Rattle.core_lowering_rules.specs.Scopes.{after, after_all};
+ghost use Rattle.core_lowering_rules.specs.Statements.{run, stmt, stmts};
+ghost use Rattle.core_lowering_locks.specs.Seen.{item_seen};
 ghost use Rattle.core_lowering_methods.specs.Drafts.{code_of};
-ghost use Rattle.core_lowering_methods.specs.Parts.{passed_by};
 
 use crate::blocks::end_block;
+use crate::jumps::{lower_break, lower_continue};
 use crate::locals::lower_locals;
-use crate::locks::note_lock;
-use crate::loops::{begin_for, end_for, end_while, lower_next};
+use crate::loops::{lower_do, lower_for, lower_for_each, lower_labelled, lower_while};
 use crate::parts::lower_run;
 use crate::returns::lower_return;
-use crate::{Context, Draft, lower_expression};
-use core_code::LockKind;
-use core_lowering_locks::{Item, Lock, first_item};
-use java_tree::{Apart, CatchTree, Expression, Ident, StartTree, Statement, TryTree, TypeTree};
-use racer_base::{Kind, Memory, Place};
+use crate::switches::lower_switch;
+use crate::tries::{lower_locked, lower_try};
+use crate::{Context, Making, lower_expression};
+use core_code::{LockKind, Op};
+use core_lowering_locks::{Item, first_item};
+use java_tree::{Expression, Statement};
+use racer_base::{Memory, Place};
 use std::alloc::Global;
 
+fn lower_throw(
+    alloc: Global,
+    context: &Context,
+    place: Place,
+    e: &Expression,
+    draft: &mut Making,
+) -> Result<(), Memory>
+    ensures { OnOk result (code_of draft.new ≡ code_of draft.old ++ stmt context.now (Throw place (expr_of e.now))) }
+{
+    lower_run(alloc, context, e, draft)?;
+    draft.op(place, Op::Throw)
+}
+
+fn lower_assert(
+    alloc: Global,
+    context: &Context,
+    e: &Expression,
+    draft: &mut Making,
+) -> Result<(), Memory>
+    ensures { OnOk result (code_of draft.new ≡ code_of draft.old ++ choice (run context.now (expr_of e.now)) []) }
+{
+    let left = draft.len();
+    lower_run(alloc, context, e, draft)?;
+    let right = draft.len();
+    draft.choose(alloc, left, right)
+}
+
 #[cycle(statements)]
-fn lower_statement(
+pub fn lower_statement(
     alloc: Global,
     context: &mut Context,
     statement: &Statement,
-    draft: &mut Draft,
+    draft: &mut Making,
 ) -> Result<(), Memory>
     ensures context { OnOk result (context.new ≡ after context.old (stmt_of statement.now)) }
     ensures code { OnOk result (code_of draft.new ≡ code_of draft.old ++ stmt context.old (stmt_of statement.now)) }
@@ -61,22 +88,24 @@ fn lower_statement(
         Statement::Sync(place, e, all) => lower_sync(alloc, context, all, *place, e.get(), draft),
         Statement::Return(e) => lower_return(alloc, context, e, draft),
         Statement::Empty => Ok(()),
-        // No method with one of these is lowered.
-        Statement::Do(_, _) | Statement::Throw(_, _) | Statement::Break(_) => Ok(()),
-        Statement::Continue(_) | Statement::Labelled(_, _) | Statement::Assert(_, _) => Ok(()),
-        Statement::Switch(_, _) => Ok(()),
-        // Nor one in which this does not stand behind its lock.
-        Statement::Try(_) => Ok(()),
+        Statement::Do(s, e) => lower_do(alloc, context, s, e.get(), draft),
+        Statement::Throw(place, e) => lower_throw(alloc, context, *place, e.get(), draft),
+        Statement::Break(x) => lower_break(context, x, draft),
+        Statement::Continue(x) => lower_continue(context, x, draft),
+        Statement::Labelled(x, s) => lower_labelled(alloc, context, s, x.get(), draft),
+        Statement::Assert(e, _) => lower_assert(alloc, context, e.get(), draft),
+        Statement::Switch(e, groups) => lower_switch(alloc, context, groups, e.get(), draft),
+        Statement::Try(tried) => lower_try(alloc, context, tried, draft),
     }
 }
 
 /// Statements, one after another.
 #[cycle(statements)]
-fn lower_statements(
+pub fn lower_statements(
     alloc: Global,
     context: &mut Context,
     statements: &[Statement],
-    draft: &mut Draft,
+    draft: &mut Making,
 ) -> Result<(), Memory>
     ensures context { OnOk result (context.new ≡ after_all context.old (pack_stmts (map stmt_of statements.now))) }
     ensures code { OnOk result (code_of draft.new ≡ code_of draft.old
@@ -95,7 +124,7 @@ fn lower_item(
     alloc: Global,
     context: &mut Context,
     item: Item,
-    draft: &mut Draft,
+    draft: &mut Making,
 ) -> Result<(), Memory>
     ensures context { OnOk result (context.new ≡ after context.old (item_seen item.entry)) }
     ensures code { OnOk result (code_of draft.new ≡ code_of draft.old ++ stmt context.old (item_seen item.entry)) }
@@ -112,7 +141,7 @@ pub fn lower_block(
     alloc: Global,
     context: &mut Context,
     statements: &[Statement],
-    draft: &mut Draft,
+    draft: &mut Making,
 ) -> Result<(), Memory>
     ensures context { OnOk result (context.new
         ≡ after context.old (Block (pack_stmts (map stmt_of statements.now)))) }
@@ -120,8 +149,9 @@ pub fn lower_block(
         ++ stmt context.old (Block (pack_stmts (map stmt_of statements.now)))) }
 {
     let before = context.in_scope();
+    let at = draft.len();
     lower_statements(alloc, context, statements, draft)?;
-    end_block(context, draft, before)
+    end_block(alloc, context, draft, before, at)
 }
 
 #[cycle(statements)]
@@ -130,7 +160,7 @@ fn lower_if(
     context: &mut Context,
     s: &Statement,
     e: &Expression,
-    draft: &mut Draft,
+    draft: &mut Making,
 ) -> Result<(), Memory>
     ensures context { OnOk result (context.new ≡ after context.old (If (expr_of e.now) (stmt_of s.now))) }
     ensures code { OnOk result (code_of draft.new ≡ code_of draft.old
@@ -150,7 +180,7 @@ fn lower_if_else(
     s: &Statement,
     t: &Statement,
     e: &Expression,
-    draft: &mut Draft,
+    draft: &mut Making,
 ) -> Result<(), Memory>
     ensures context { OnOk result (context.new
         ≡ after context.old (IfElse (expr_of e.now) (stmt_of s.now) (stmt_of t.now))) }
@@ -166,79 +196,13 @@ fn lower_if_else(
 }
 
 #[cycle(statements)]
-fn lower_while(
-    alloc: Global,
-    context: &mut Context,
-    s: &Statement,
-    e: &Expression,
-    draft: &mut Draft,
-) -> Result<(), Memory>
-    ensures context { OnOk result (context.new ≡ after context.old (While (expr_of e.now) (stmt_of s.now))) }
-    ensures code { OnOk result (code_of draft.new ≡ code_of draft.old
-        ++ stmt context.old (While (expr_of e.now) (stmt_of s.now))) }
-{
-    lower_run(alloc, context, e, draft)?;
-    let body = draft.len();
-    lower_statement(alloc, context, s, draft)?;
-    end_while(alloc, context, e, body, draft)
-}
-
-#[cycle(statements)]
-fn lower_for(
-    alloc: Global,
-    context: &mut Context,
-    s: &Statement,
-    start: &StartTree,
-    e: &Option<Apart<Expression>>,
-    updates: &[Expression],
-    draft: &mut Draft,
-) -> Result<(), Memory>
-    ensures context { OnOk result (context.new ≡ after context.old (For (start_of start.now)
-        (option_map expr_of e.now) (pack_exprs (map expr_of updates.now)) (stmt_of s.now))) }
-    ensures code { OnOk result (code_of draft.new ≡ code_of draft.old ++ stmt context.old (For (start_of start.now)
-        (option_map expr_of e.now) (pack_exprs (map expr_of updates.now)) (stmt_of s.now))) }
-{
-    let before = context.in_scope();
-    begin_for(alloc, context, start, e, draft)?;
-    let body = draft.len();
-    lower_statement(alloc, context, s, draft)?;
-    end_for(alloc, context, e, updates, body, draft)?;
-    end_block(context, draft, before)
-}
-
-#[cycle(statements)]
-fn lower_for_each(
-    alloc: Global,
-    context: &mut Context,
-    s: &Statement,
-    t: &TypeTree,
-    x: &Ident,
-    e: &Expression,
-    draft: &mut Draft,
-) -> Result<(), Memory>
-    ensures context { OnOk result (context.new
-        ≡ after context.old (ForEach (ty_of t.now) x.now (expr_of e.now) (stmt_of s.now))) }
-    ensures code { OnOk result (code_of draft.new ≡ code_of draft.old
-        ++ stmt context.old (ForEach (ty_of t.now) x.now (expr_of e.now) (stmt_of s.now))) }
-{
-    let before = context.in_scope();
-    lower_run(alloc, context, e, draft)?;
-    let body = draft.len();
-    let v = context.declare(alloc, context.type_kind(t), x)?;
-    lower_next(context, v, draft)?;
-    lower_statement(alloc, context, s, draft)?;
-    draft.repeat(alloc, body)?;
-    end_block(context, draft, before)
-}
-
-#[cycle(statements)]
 fn lower_sync(
     alloc: Global,
     context: &mut Context,
     statements: &[Statement],
     place: Place,
     e: &Expression,
-    draft: &mut Draft,
+    draft: &mut Making,
 ) -> Result<(), Memory>
     ensures context { OnOk result (context.new
         ≡ after context.old (Sync place (expr_of e.now) (pack_stmts (map stmt_of statements.now)))) }
@@ -249,49 +213,4 @@ fn lower_sync(
     let body = draft.len();
     lower_block(alloc, context, statements, draft)?;
     draft.hold(alloc, LockKind::Own, place, body)
-}
-
-/// A locked try, under its lock.
-#[cycle(statements)]
-fn lower_locked(
-    alloc: Global,
-    context: &mut Context,
-    tried: &TryTree,
-    lock: Lock,
-    draft: &mut Draft,
-) -> Result<(), Memory>
-    ensures context { OnOk result (context.new ≡ after context.old (under (lock_seen lock.entry) tried.now)) }
-    ensures code { OnOk result (code_of draft.new ≡ code_of draft.old
-        ++ stmt context.old (under (lock_seen lock.entry) tried.now)) }
-{
-    lower_expression(alloc, context, lock.on, draft)?;
-    let body = draft.len();
-    lower_block(alloc, context, tried.body.as_slice(), draft)?;
-    draft.hold(alloc, LockKind::Explicit, lock.place, body)?;
-    note_lock(context, lock.on);
-    pass_clauses(alloc, context, tried.clauses.as_slice())
-}
-
-/// Catch clauses, of which no code is kept.
-#[cycle(statements)]
-fn pass_clauses(alloc: Global, context: &mut Context, clauses: &[CatchTree]) -> Result<(), Memory>
-    ensures { OnOk result (context.new ≡ caught context.old (pack_catches (map catch_of clauses.now))) }
-{
-    for clause in clauses {
-        pass_clause(alloc, context, clause)?;
-    }
-    Ok(())
-}
-
-#[cycle(statements)]
-fn pass_clause(alloc: Global, context: &mut Context, clause: &CatchTree) -> Result<(), Memory>
-    ensures { OnOk result (context.new ≡ passed_by context.old (catch_of clause.now)) }
-{
-    let scope = context.in_scope();
-    let count = context.count();
-    let mut draft = Draft::new(alloc);
-    context.declare(alloc, Kind::Other, &clause.parameter.name)?;
-    lower_statements(alloc, context, clause.body.as_slice(), &mut draft)?;
-    context.forget(scope, count);
-    Ok(())
 }

@@ -12,7 +12,7 @@ ghost use Rattle.core_lowering_methods.specs.Parts.{then_fetched, then_combined,
 
 use crate::calls::call_outside;
 use crate::context::Context;
-use crate::draft::Draft;
+use crate::making::Making;
 use crate::value_kind::ValueKind;
 use core_code::Op;
 use java_resolver::Meaning;
@@ -45,7 +45,7 @@ fn behind(
     context: &Context,
     operation: Op,
     storage: Storage,
-    draft: &mut Draft,
+    draft: &mut Making,
 ) -> Result<Storage, Memory>
     ensures code { OnOk result (code_of draft.new ≡ code_of draft.old ++ op context.now operation) }
     ensures storage { IfOk result (λ s. s ≡ storage) }
@@ -56,7 +56,12 @@ fn behind(
 }
 
 /// A field, behind `this` or its class.
-fn own_field(context: &Context, f: FieldId, x: &Ident, draft: &mut Draft) -> Result<Storage, Memory>
+fn own_field(
+    context: &Context,
+    f: FieldId,
+    x: &Ident,
+    draft: &mut Making,
+) -> Result<Storage, Memory>
     ensures code { OnOk result (code_of draft.new ≡ code_of draft.old
         ++ base_of (of_meaning context.now x.now (Field f))) }
     ensures storage { IfOk result (λ s. s ≡ without_base (of_meaning context.now x.now (Field f))) }
@@ -74,7 +79,7 @@ fn own_field(context: &Context, f: FieldId, x: &Ident, draft: &mut Draft) -> Res
 }
 
 /// x, behind the base of a field.
-pub fn of_name(context: &Context, x: &Ident, draft: &mut Draft) -> Result<Storage, Memory>
+pub fn of_name(context: &Context, x: &Ident, draft: &mut Making) -> Result<Storage, Memory>
     ensures code { OnOk result (code_of draft.new ≡ code_of draft.old ++ base_of (of_name context.now x.now)) }
     ensures storage { IfOk result (λ s. s ≡ without_base (of_name context.now x.now)) }
     ensures err { OnErr result (code_of draft.new ≡ code_of draft.old) }
@@ -92,7 +97,7 @@ pub fn of_class(
     context: &Context,
     c: ClassId,
     x: &Ident,
-    draft: &mut Draft,
+    draft: &mut Making,
 ) -> Result<Storage, Memory>
     ensures code { OnOk result (code_of draft.new ≡ code_of draft.old
         ++ base_of (of_class context.now c x.now (field_named context.now.folder.fields c true x.now.text))) }
@@ -119,7 +124,7 @@ fn object_field(
     c: ClassId,
     f: FieldId,
     x: &Ident,
-    draft: &mut Draft,
+    draft: &mut Making,
 ) -> Result<Storage, Memory>
     ensures code { OnOk result (code_of draft.new ≡ code_of draft.old
         ++ base_of (of_object context.now c [] x.now (Some f))) }
@@ -141,7 +146,7 @@ pub fn of_value(
     context: &Context,
     kind: ValueKind,
     x: &Ident,
-    draft: &mut Draft,
+    draft: &mut Making,
 ) -> Result<Storage, Memory>
     ensures code { OnOk result (code_of draft.new ≡ code_of draft.old
         ++ base_of (of_value context.now (value_kind kind) [] x.now)) }
@@ -157,7 +162,7 @@ pub fn of_value(
 }
 
 /// Reads what is there.
-pub fn read(context: &Context, storage: Storage, draft: &mut Draft) -> Result<ValueKind, Memory>
+pub fn read(context: &Context, storage: Storage, draft: &mut Making) -> Result<ValueKind, Memory>
     ensures code { OnOk result (code_of draft.new ≡ code_of draft.old ++ then_read context.now storage) }
     ensures kind { IfOk result (λ k. value_kind k ≡ storage_kind storage) }
 {
@@ -173,7 +178,7 @@ pub fn assign(
     context: &Context,
     storage: Storage,
     given: ValueKind,
-    draft: &mut Draft,
+    draft: &mut Making,
 ) -> Result<(), Memory>
     ensures code { OnOk result (code_of draft.new ≡ code_of draft.old
         ++ then_assigned context.now storage (value_kind given)) }
@@ -193,7 +198,7 @@ pub fn assign(
 }
 
 /// Reads what is there and is to be changed.
-pub fn fetch(context: &Context, storage: Storage, draft: &mut Draft) -> Result<(), Memory>
+pub fn fetch(context: &Context, storage: Storage, draft: &mut Making) -> Result<(), Memory>
     ensures { OnOk result (code_of draft.new ≡ code_of draft.old ++ then_fetched context.now storage) }
 {
     match storage {
@@ -207,7 +212,7 @@ pub fn fetch(context: &Context, storage: Storage, draft: &mut Draft) -> Result<(
 }
 
 /// Stores a number made of what was fetched and of one more value.
-pub fn combine(context: &Context, storage: Storage, draft: &mut Draft) -> Result<(), Memory>
+pub fn combine(context: &Context, storage: Storage, draft: &mut Making) -> Result<(), Memory>
     ensures { OnOk result (code_of draft.new ≡ code_of draft.old ++ then_combined context.now storage) }
 {
     if let Storage::Elsewhere(n) = storage {
@@ -218,7 +223,7 @@ pub fn combine(context: &Context, storage: Storage, draft: &mut Draft) -> Result
 }
 
 /// Stores a number made of what was fetched.
-pub fn count(context: &Context, storage: Storage, draft: &mut Draft) -> Result<(), Memory>
+pub fn count(context: &Context, storage: Storage, draft: &mut Making) -> Result<(), Memory>
     ensures { OnOk result (code_of draft.new ≡ code_of draft.old ++ then_counted context.now storage) }
 {
     if let Storage::Elsewhere(n) = storage {

@@ -11,7 +11,7 @@ ghost use Rattle.core_lowering_methods.specs.Parts.{storage_kind, then_fetched, 
 ghost use Rattle.core_lowering_methods.specs.Together.{operator_front, operator_end, assign_front, assign_end};
 
 use crate::context::Context;
-use crate::draft::Draft;
+use crate::making::Making;
 use crate::numbers::number_of;
 use crate::operators::{is_assignment, is_logical};
 use crate::storage::{Storage, assign, combine, count, fetch};
@@ -21,7 +21,7 @@ use racer_base::{Kind, Memory, Place};
 use std::alloc::Global;
 
 /// Behind so many operands: a number made of them.
-pub fn prim(context: &Context, count: u32, draft: &mut Draft) -> Result<ValueKind, Memory>
+pub fn prim(context: &Context, count: u32, draft: &mut Making) -> Result<ValueKind, Memory>
     ensures code { OnOk result (code_of draft.new ≡ code_of draft.old ++ op context.now (Prim count)) }
     ensures kind { IfOk result (λ k. value_kind k ≡ Of Plain) }
 {
@@ -29,7 +29,7 @@ pub fn prim(context: &Context, count: u32, draft: &mut Draft) -> Result<ValueKin
 }
 
 /// Behind the left operand of an operator with two: where the right one begins.
-pub fn begin_operator(context: &Context, op: &str, draft: &mut Draft) -> Result<usize, Memory>
+pub fn begin_operator(context: &Context, op: &str, draft: &mut Making) -> Result<usize, Memory>
     ensures code { OnOk result (code_of draft.new ≡ code_of draft.old
         ++ operator_front context.now (is_logical op.now)) }
     ensures at { IfOk result (λ at. at ≡ length (code_of draft.new)) }
@@ -45,7 +45,7 @@ fn end_logical(
     alloc: Global,
     context: &Context,
     at: usize,
-    draft: &mut Draft,
+    draft: &mut Making,
 ) -> Result<ValueKind, Memory>
     ensures code { OnOk result ((left right : Code) → at ≡ length left → code_of draft.old ≡ left ++ right
         → code_of draft.new ≡ left ++ choice (right ++ op context.now (Prim 2)) []) }
@@ -63,7 +63,7 @@ pub fn end_operator(
     context: &Context,
     op: &str,
     at: usize,
-    draft: &mut Draft,
+    draft: &mut Making,
 ) -> Result<ValueKind, Memory>
     ensures code { OnOk result ((left right : Code) → at ≡ length left → code_of draft.old ≡ left ++ right
         → code_of draft.new ≡ left ++ operator_end context.now (is_logical op.now) right) }
@@ -77,7 +77,7 @@ pub fn end_operator(
 }
 
 /// Behind a condition: where the value for true begins.
-pub fn begin_conditional(context: &Context, draft: &mut Draft) -> Result<usize, Memory>
+pub fn begin_conditional(context: &Context, draft: &mut Making) -> Result<usize, Memory>
     ensures code { OnOk result (code_of draft.new ≡ code_of draft.old ++ op context.now Drop) }
     ensures at { IfOk result (λ at. at ≡ length (code_of draft.new)) }
 {
@@ -90,7 +90,7 @@ pub fn end_conditional(
     alloc: Global,
     values: (usize, usize),
     kinds: (ValueKind, ValueKind),
-    draft: &mut Draft,
+    draft: &mut Making,
 ) -> Result<ValueKind, Memory>
     ensures code { OnOk result ((start left right : Code) → values.0 ≡ length start
         → values.1 ≡ length (start ++ left) → code_of draft.old ≡ start ++ left ++ right
@@ -106,7 +106,7 @@ pub fn begin_assign(
     context: &Context,
     op: &str,
     storage: Storage,
-    draft: &mut Draft,
+    draft: &mut Making,
 ) -> Result<(), Memory>
     ensures { OnOk result (code_of draft.new ≡ code_of draft.old
         ++ assign_front context.now (is_assignment op.now) storage) }
@@ -124,7 +124,7 @@ pub fn end_assign(
     op: &str,
     storage: Storage,
     given: ValueKind,
-    draft: &mut Draft,
+    draft: &mut Making,
 ) -> Result<ValueKind, Memory>
     ensures code { OnOk result (code_of draft.new ≡ code_of draft.old
         ++ assign_end context.now (is_assignment op.now) storage (value_kind given)) }
@@ -142,7 +142,7 @@ pub fn end_assign(
 pub fn count_value(
     context: &Context,
     storage: Storage,
-    draft: &mut Draft,
+    draft: &mut Making,
 ) -> Result<ValueKind, Memory>
     ensures code { OnOk result (code_of draft.new ≡ code_of draft.old
         ++ (then_fetched context.now storage ++ then_counted context.now storage)) }
@@ -154,7 +154,7 @@ pub fn count_value(
 }
 
 /// Behind so many lengths or items: the array.
-pub fn new_array(place: Place, count: usize, draft: &mut Draft) -> Result<ValueKind, Memory>
+pub fn new_array(place: Place, count: usize, draft: &mut Making) -> Result<ValueKind, Memory>
     ensures code { OnOk result (code_of draft.new ≡ code_of draft.old ++ op_at place (Outside count)) }
     ensures kind { IfOk result (λ k. value_kind k ≡ Of Other) }
 {

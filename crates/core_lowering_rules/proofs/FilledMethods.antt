@@ -27,9 +27,8 @@ use Rattle.core_lowering_rules.specs.TreesOf.{init_of}
 use Rattle.core_lowering_rules.proofs.FilledTrees.{Filled, filled, ident, behind, skip, skip_types, one, one-is, two-is}
 use Rattle.core_lowering_rules.proofs.FilledTrees.{each, init, stmts}
 use Rattle.core_lowering_rules.proofs.FilledExpressions.{behind-type, init-is}
-use Rattle.core_lowering_rules.proofs.FilledStatements.{types-behind, stmts-are}
-use Rattle.core_lowering_rules.proofs.LoweredTrees.{are_parts}
-use Rattle.core_lowering_rules.proofs.SeenTrees.{parts-alike}
+use Rattle.core_lowering_rules.proofs.FilledParts.{types-behind}
+use Rattle.core_lowering_rules.proofs.FilledStatements.{stmts-are}
 
 pub same_initialiser : (i j : Initialiser) → viewed.init_of i ≡ viewed.init_of j → init_places i [] ≡ init_places j []
     → init_of i ≡ init_of j
@@ -174,21 +173,17 @@ heads-alike m n v k =
 pub same_seen : (m n : MethodTree) → method_of m ≡ method_of n → method_marks m ≡ method_marks n → seen m ≡ seen n
 same_seen m n v k = ap (λ (g : Filled Seen). g.tree) (heads-alike m n v k)
 
--- ---- a body that is lowered
+-- ---- the body
 
-abbrev AreParts : MethodTree → Type 0
-AreParts m = are_parts (body_of m) ≡ true
-
-body-is : (m : MethodTree) → AreParts m → body (method_of m) (ends_of m) ≡ filled (body_of m) []
-body-is m low =
+body-is : (m : MethodTree) → body (method_of m) (ends_of m) ≡ filled (body_of m) []
+body-is m =
     let v = method_of m in
-    ap (stmts v.body) (types-behind m.throws (each_puts (map stmt_places m.body) [])) ∙ stmts-are m.body low []
+    ap (stmts v.body) (types-behind m.throws (each_puts (map stmt_places m.body) [])) ∙ stmts-are m.body []
 
-pub same_body : (m n : MethodTree) → method_of m ≡ method_of n → method_marks m ≡ method_marks n → AreParts m
+pub same_body : (m n : MethodTree) → method_of m ≡ method_of n → method_marks m ≡ method_marks n
     → body_of m ≡ body_of n
-same_body m n v k low =
+same_body m n v k =
     let ends : ends_of m ≡ ends_of n = ap (λ (g : Filled Seen). g.left) (heads-alike m n v k) in
     let e : filled (body_of m) [] ≡ filled (body_of n) [] =
-    sym (body-is m low) ∙ ap (λ x. body x (ends_of m)) v ∙ ap (body (method_of n)) ends
-    ∙ body-is n (sym (parts-alike m n v) ∙ low) in
+    sym (body-is m) ∙ ap (λ x. body x (ends_of m)) v ∙ ap (body (method_of n)) ends ∙ body-is n in
     ap (λ (g : Filled Stmts). g.tree) e

@@ -1,4 +1,5 @@
 -- The tree that is lowered, made from a tree without places and the places that its tokens kept.
+use Rattle.std.specs.Prelude.{Bool, false, codes, bytes_eq, if◌then◌else◌}
 use Rattle.std.proofs.Common.{◌≡◌, ℕ, suc, zero, List, [], ◌∷◌, ◌++◌, Option, Some, None, length, refl, ap, ◌∙◌}
 use Rattle.racer_base.specs.declared.ids.Place.{Place}
 use Rattle.java_tree.specs.declared.words.Ident.{Ident}
@@ -12,10 +13,12 @@ use Rattle.core_lowering_rules.specs.Trees.{NewArray, NewItems, Paren, Named, Se
 use Rattle.core_lowering_rules.specs.Trees.{expr_then}
 use Rattle.core_lowering_rules.specs.Trees.{Init, Value, Items, Inits, no_init, init_then, Variable, Start, Declares}
 use Rattle.core_lowering_rules.specs.Trees.{Runs}
-use Rattle.core_lowering_rules.specs.Trees.{Stmt, Run, Local, If, IfElse, While, For, ForEach, Sync, Return, Block}
-use Rattle.core_lowering_rules.specs.Trees.{Empty}
-use Rattle.core_lowering_rules.specs.Trees.{Stmts, no_stmt, put_before, Try, Apart, Catches, no_catch, catch_then}
-use Rattle.core_lowering_rules.specs.TreesOf.{access_of, assignment, binary, prefix, literal}
+use Rattle.core_lowering_rules.specs.Trees.{Condition, Resource, Stmt, Run, Local, If, IfElse, While, Do, For, ForEach}
+use Rattle.core_lowering_rules.specs.Trees.{Sync, Return, Block, Empty, Throw, Break, Continue, Labelled, Assert}
+use Rattle.core_lowering_rules.specs.Trees.{Switch}
+use Rattle.core_lowering_rules.specs.Trees.{Stmts, no_stmt, put_before, Groups, no_group, group_then, Catches, no_catch}
+use Rattle.core_lowering_rules.specs.Trees.{catch_then}
+use Rattle.core_lowering_rules.specs.TreesOf.{access_of, assignment, binary, prefix, literal, tried}
 
 -- ---- what is made, and the places that are left
 
@@ -142,7 +145,7 @@ abbrev mutual
   init (view.Value e) ps = one Value (expr e ps)
   init (view.Items items) ps = one Items (array items ps)
 
--- ---- statements; nothing is said of those that are not lowered
+-- ---- statements
 
 abbrev pub each : {A B : Type 0} → (A → Places → Filled B) → List A → Places → Filled (List B)
 each f [] ps = filled [] ps
@@ -175,6 +178,40 @@ caught x ss = (x, ss)
 abbrev pub caught_then : Ident × Stmts → Catches → Catches
 caught_then c cs = catch_then c.0 c.1 cs
 
+-- the condition of a loop
+abbrev pub is_true_seen : view.Expr → Bool
+is_true_seen (view.Literal k text) = bytes_eq text (codes "true")
+is_true_seen _ = false
+
+abbrev pub tested : Bool → Expr → Condition
+tested b e = record { on = e; is_true = b }
+
+abbrev pub condition : view.Expr → Places → Filled Condition
+condition e ps = one (tested (is_true_seen e)) (expr e ps)
+
+abbrev pub named : List ℕ → Places → Filled Ident
+named x ps = filled (ident x ps) (behind ps)
+
+-- `break` or `continue`
+abbrev pub jumped : Bool → Option Ident → Stmt
+jumped b x = if b then Break x else Continue x
+
+abbrev pub resourced : Ty → Ident → Expr → Resource
+resourced t x e = record { kind = t; name = x; value = e }
+
+abbrev pub resource : view.Resource → Places → Filled Resource
+resource r ps =
+    one (resourced r.kind (ident r.name (skip (ty_count r.kind) ps)))
+    (expr r.value (behind (skip (ty_count r.kind) ps)))
+
+abbrev pub resources : Option view.Resources → Places → Filled (List Resource)
+resources None ps = filled [] ps
+resources (Some rs) ps = each resource rs.items ps
+
+abbrev pub label : view.Label → Places → Filled (Option Expr)
+label (view.Case e) ps = one Some (expr e ps)
+label view.Default ps = filled None ps
+
 abbrev mutual
   pub stmt : view.Stmt → Places → Filled Stmt
   stmt (view.Block ss) ps = one Block (stmts ss ps)
@@ -182,25 +219,33 @@ abbrev mutual
   stmt (view.Run e) ps = one Run (expr e ps)
   stmt (view.If e s) ps = two If (expr e ps) (stmt s)
   stmt (view.IfElse e s t) ps = three IfElse (expr e ps) (stmt s) (stmt t)
-  stmt (view.For i condition updates s) ps =
-      four For (start i ps) (maybe expr condition) (exprs updates) (stmt s)
+  stmt (view.For i c updates s) ps = four For (start i ps) (maybe condition c) (exprs updates) (stmt s)
   stmt (view.ForEach is_final t x e s) ps =
       two (ForEach t (ident x (skip (ty_count t) ps))) (expr e (behind (skip (ty_count t) ps))) (stmt s)
-  stmt (view.Labelled x s) ps = filled Apart ps
+  stmt (view.Labelled x s) ps = one (Labelled (ident x ps)) (stmt s (behind ps))
   stmt view.Empty ps = filled Empty ps
-  -- by what stands behind the keyword: of the rows that are lowered no two have the same
-  stmt (view.Row word (view.a_condition e (view.a_body s rest))) ps = two While (expr e ps) (stmt s)
+  -- by what stands behind the keyword: no two rows have the same, but `break` and `continue`
+  stmt (view.Row word (view.a_condition e (view.a_body s rest))) ps = two While (condition e ps) (stmt s)
   stmt (view.Row word (view.a_condition e (view.a_block ss rest))) ps =
       two (Sync (first ps)) (expr e (behind ps)) (stmts ss)
+  stmt (view.Row word (view.a_condition e (view.a_switch gs rest))) ps = two Switch (expr e ps) (groups gs)
   stmt (view.Row word (view.maybe_an_expr e rest)) ps = one Return (maybe expr e ps)
-  stmt (view.Row word (view.some_part (view.maybe_resources None (view.a_block ss (view.a_list catch several
-      (view.present last (view.a_block ts more) rest)))))) ps =
-      three Try (stmts ss ps) (clauses several) (stmts ts)
-  stmt (view.Row word _) ps = filled Apart ps
+  stmt (view.Row word (view.maybe_a_name x rest)) ps = one (jumped (bytes_eq word (codes "break"))) (maybe named x ps)
+  stmt (view.Row word (view.an_expr e (view.a_token t rest))) ps = one (Throw (first ps)) (expr e (behind ps))
+  stmt (view.Row word (view.an_expr e (view.maybe_behind text f rest))) ps = two Assert (expr e ps) (maybe expr f)
+  stmt (view.Row word (view.a_body s (view.a_token t (view.a_condition e rest)))) ps = two Do (stmt s ps) (condition e)
+  stmt (view.Row word (view.some_part (view.maybe_resources rs (view.a_block ss
+      (view.a_list catch several last))))) ps =
+      four tried (resources rs ps) (stmts ss) (clauses several) (last_block last)
+  stmt (view.Row word _) ps = filled Empty ps
 
   pub stmts : view.Stmts → Places → Filled Stmts
   stmts view.no_stmt ps = filled no_stmt ps
   stmts (view.stmt_then s ss) ps = two put_before (stmt s ps) (stmts ss)
+
+  pub groups : view.Groups → Places → Filled Groups
+  groups view.no_group ps = filled no_group ps
+  groups (view.group_then labels ss gs) ps = three group_then (each label labels ps) (stmts ss) (groups gs)
 
   pub clauses : view.Several → Places → Filled Catches
   clauses view.no_row ps = filled no_catch ps
@@ -210,3 +255,8 @@ abbrev mutual
   clause (view.a_catch_parameter p (view.a_block ss rest)) ps =
       one (caught (ident p.name (skip_types p.types ps))) (stmts ss (behind (skip_types p.types ps)))
   clause _ ps = filled (ident [] ps, no_stmt) ps
+
+  -- the block of a `finally`
+  pub last_block : view.Pieces → Places → Filled (Option Stmts)
+  last_block (view.present word (view.a_block ss rest) more) ps = one Some (stmts ss ps)
+  last_block _ ps = filled None ps

@@ -114,3 +114,7 @@ pub each-flat_map : {A B : Type 0} (P : B → Type 0) (f : A → List B) → ((x
     Each P (flat_map f xs)
 each-flat_map P f all [] = tt
 each-flat_map P f all (x ∷ xs) = each-append P (f x) (flat_map f xs) (all x) (each-flat_map P f all xs)
+
+pub unless : {A : Type 0} (P : A → Type 0) (b : Bool) (xs : List A) → Each P xs → Each P (cond b [] xs)
+unless P true xs all = tt
+unless P false xs all = all

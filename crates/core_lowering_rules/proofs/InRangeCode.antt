@@ -22,10 +22,12 @@ use Rattle.core_code.specs.KindCheck.{field_at, variable_at, after_push, after_s
 use Rattle.core_code.specs.Calls.{method_at}
 use Rattle.core_code.specs.Facts.{is_place, is_class, is_kind, is_method, is_op, is_code}
 use Rattle.core_code.proofs.InRange.{then_in_range, held_in_range}
-use Rattle.core_lowering_rules.specs.Context.{Code, op_at, lock_at}
+use Rattle.core_lowering_drafts.specs.Only.{Code, one as one_op}
+use Rattle.core_lowering_rules.specs.Context.{lock_at}
 use Rattle.core_lowering_rules.specs.Sites.{numbered}
 use Rattle.core_lowering_rules.proofs.NumberedTrees.{SiteFact, same-numbered}
-use Rattle.core_lowering_rules.proofs.LoweredFacts.{Tests, Fact, is_named}
+use Rattle.core_lowering_rules.proofs.LoweredFacts.{Tests, is_named}
+use Rattle.core_lowering_rules.proofs.DraftFacts.{CoreFact}
 
 -- ---- what the check of kinds does not look at
 
@@ -62,14 +64,14 @@ module _ (core : Core) where
   alone part h = record { fine = and_from (is_sound core part) true h refl }
 
   pub one : (place : Place) (o : CoreOp) → is_place core place ≡ true →
-      is_named (is_class core) (is_method core) o ≡ true → Fine core (op_at place o)
+      is_named (is_class core) (is_method core) o ≡ true → Fine core (one_op place o)
   one place o p q =
       alone (Op (record { 0 = 0 }) place o)
       (and_from (is_place core place) (is_named (is_class core) (is_method core) o) p q)
 
   -- read or not
   pub call : (place : Place) (m : MethodId) (n : ℕ) (b : Bool) → is_place core place ≡ true → is_method core m ≡ true →
-      Fine core (op_at place (cond b (Call m n) (Unread m n)))
+      Fine core (one_op place (cond b (Call m n) (Unread m n)))
   call place m n true h k = one place (Call m n) h refl
   call place m n false h k = one place (Unread m n) h k
 
@@ -86,16 +88,19 @@ module _ (core : Core) where
         of_kind = λ c h. h;
       }
 
-  abbrev pub fineness : Fact
+  abbrev pub fineness : CoreFact
   fineness =
       record {
         tests = numbers;
-        Holds = λ c d. Fine core d;
-        nothing = empty;
-        followed = λ a b c d p q. joined c d p q;
-        chosen = λ a b c d p q. alone (Choice (in_sequence c) (in_sequence d))
-            (and_from (is_sound core (in_sequence c)) (is_sound core (in_sequence d)) (whole p) (whole q));
-        looped = λ a c p. alone (Loop (in_sequence c)) (whole p);
+        code =
+            record {
+              Holds = λ c d. Fine core d;
+              nothing = empty;
+              followed = λ a b c d p q. joined c d p q;
+              chosen = λ a b c d p q. alone (Choice (in_sequence c) (in_sequence d))
+                  (and_from (is_sound core (in_sequence c)) (is_sound core (in_sequence d)) (whole p) (whole q));
+              looped = λ a c p. alone (Loop (in_sequence c)) (whole p);
+            };
         locked = λ kind place a c there p. alone (Sync (lock_at kind place) (in_sequence c))
             (and_from (is_place core place) (is_sound core (in_sequence c)) there (whole p));
         single = one;

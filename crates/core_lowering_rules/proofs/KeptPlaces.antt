@@ -22,14 +22,12 @@ use Rattle.java_tree.specs.declared.unit.Member.{Member}
 use Rattle.java_tree.specs.declared.unit.Member.TheVariants as member
 use Rattle.java_resolver.specs.Declarations.{trees_of}
 use Rattle.java_resolver.specs.Declarations.{by_class, names_of, default_constructor, member_is_constructor}
-use Rattle.core_lowering_rules.specs.Methods.{Body, Default, Spelled, Unspelled, Source, body_of}
-use Rattle.core_lowering_rules.specs.LoweredForms.{are_lowered, method_body}
+use Rattle.core_lowering_rules.specs.Methods.{Body, Default, Spelled, Unspelled, Source}
 use Rattle.core_lowering_rules.specs.Programs.{member_sources, default_sources, class_sources, sources_of}
 use Rattle.core_lowering_rules.specs.Programs.{skipped_member, skipped_in, put_in, is_before, in_order}
 use Rattle.core_lowering_rules.specs.Conditions.{kept_of, member_places, class_places}
 use Rattle.core_lowering_rules.specs.Conditions.{unit_places}
-use Rattle.core_lowering_rules.proofs.FoundElements.{Each, each-append}
-use Rattle.core_lowering_rules.proofs.KindedPrograms.{unless}
+use Rattle.core_lowering_rules.proofs.FoundElements.{Each, each-append, unless}
 
 -- ---- lists
 
@@ -194,16 +192,8 @@ module _ (test : Place → Bool) where
 
   abbrev pub PlacedBody : Body → Type 0
   PlacedBody Default = Unit {0}
-  PlacedBody (Spelled t) = (are_lowered (body_of t) ≡ true) × Kept (method_marks t)
+  PlacedBody (Spelled t) = Kept (method_marks t)
   PlacedBody Unspelled = Unit {0}
-
-  by-lowered : (b : Bool) (t : MethodTree) → are_lowered (body_of t) ≡ b → Kept (method_marks t) →
-      PlacedBody (cond b (Spelled t) Unspelled)
-  by-lowered true t low h = (low, h)
-  by-lowered false t low h = tt
-
-  pub body-placed : (t : MethodTree) → Kept (method_marks t) → PlacedBody (method_body t)
-  body-placed t h = by-lowered (are_lowered (body_of t)) t refl h
 
   -- ---- what methods are made of
 
@@ -215,7 +205,7 @@ module _ (test : Place → Bool) where
   member-placed : (names : List (List ℕ)) (c : ClassId) (tree : ClassTree) → PlacedClass tree → (x : Member) →
       All (member_places x) → Each PlacedSource (member_sources names c tree x)
   member-placed names c tree p (member.Method t) k =
-      (record { members = members-all tree p; body = body-placed t k }, tt)
+      (record { members = members-all tree p; body = k }, tt)
   member-placed names c tree p (member.Outside o) k = (record { members = members-all tree p; body = tt }, tt)
   member-placed names c tree p (member.Field f) k = tt
   member-placed names c tree p (member.Skipped place) k = tt

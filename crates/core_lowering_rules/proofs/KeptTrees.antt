@@ -1,8 +1,7 @@
 -- The trees that are lowered are placed where the places that the code's trees keep are.
 use Rattle.std.proofs.Common.{◌≡◌, ℕ, Bool, true, false, cond, List, [], ◌∷◌, ◌++◌, Option, Some, None, map}
-use Rattle.std.proofs.Common.{sym, ◌∙◌, subst, rules}
-use Rattle.std.specs.Prelude.{option_map, codes, bytes_eq, Vec}
-use Rattle.std.specs.Global.{Global}
+use Rattle.std.proofs.Common.{sym, ◌∙◌}
+use Rattle.std.specs.Prelude.{option_map, codes, bytes_eq}
 use Rattle.java_tree.specs.declared.statements.ResourcesTree.{ResourcesTree}
 use Rattle.std.specs.List.{list_all}
 use Rattle.std.proofs.lemmas.List.Folds.{list_all-append}
@@ -18,33 +17,26 @@ use Rattle.java_tree.specs.declared.statements.VariableTree.{VariableTree}
 use Rattle.java_tree.specs.declared.statements.LocalsTree.{LocalsTree}
 use Rattle.java_tree.specs.declared.statements.StartTree.{StartTree}
 use Rattle.java_tree.specs.declared.statements.StartTree.TheVariants as start
-use Rattle.java_tree.specs.declared.statements.Statement.{Statement, roll-Statement, map-Statement}
-use Rattle.java_tree.specs.declared.statements.CatchTree.{CatchTree, roll-CatchTree, map-CatchTree}
-use Rattle.java_tree.specs.declared.statements.GroupTree.{GroupTree}
-use Rattle.java_tree.specs.declared.statements.TryTree.{TryTree, roll-TryTree, map-TryTree}
-use Rattle.java_tree.specs.declared.statements.Statement.TheOpen as statement
-use Rattle.java_tree.specs.declared.statements.Statement.TheFolds.{ind-Statement}
-use Rattle.java_tree.specs.declared.statements.Statement.TheFolds as statements
+use Rattle.java_tree.specs.declared.statements.LabelTree.{LabelTree}
+use Rattle.java_tree.specs.declared.statements.LabelTree.TheVariants as label
+use Rattle.java_tree.specs.declared.statements.ResourceTree.{ResourceTree}
 use Rattle.java_tree.specs.KeptPlaces.{Puts, each_puts, maybe_puts, name_places, ty_places, expr_places, init_places}
-use Rattle.java_tree.specs.KeptPlaces.{array_places, variable_places, locals_places, start_places, stmt_places}
-use Rattle.java_tree.specs.KeptPlaces.{all_places, catch_places, group_places, try_places}
-use Rattle.java_tree.specs.KeptPlaces as kept
+use Rattle.java_tree.specs.KeptPlaces.{array_places, variable_places, locals_places, start_places}
+use Rattle.java_tree.specs.KeptPlaces.{label_places}
+use Rattle.java_tree.specs.KeptPlaces.{resource_places, resources_places}
 use Rattle.core_lowering_rules.specs.Trees.{Expr, Text, This, ClassOf, Read, Unary, Cast, Binary, Logical, Conditional}
 use Rattle.core_lowering_rules.specs.Trees.{Assign, Combine, Count, Call, CallOn, New, NewArray, NewItems, Paren}
 use Rattle.core_lowering_rules.specs.Trees as tree
-use Rattle.core_lowering_rules.specs.Trees.{Stmt, pack_exprs, pack_inits, pack_stmts, pack_catches}
+use Rattle.core_lowering_rules.specs.Trees.{Stmt, pack_exprs, pack_inits, pack_stmts, pack_groups}
 use Rattle.core_lowering_rules.specs.TreesOf.{access_of, literal, is_assignment, is_logical}
 use Rattle.core_lowering_rules.specs.TreesOf.{is_count}
-use Rattle.core_lowering_rules.specs.TreesOf.{expr_of, init_of, variable_of, start_of}
-use Rattle.core_lowering_rules.specs.TreesOf.{stmt_of}
-use Rattle.core_lowering_rules.specs.TreesOf.{catch_of, group_of, try_of}
-use Rattle.core_lowering_rules.specs.TreesOf as lowered
-use Rattle.core_lowering_rules.proofs.LoweredTrees.{not-lowered, is_part, are_parts, are_parts_caught, put-parts}
+use Rattle.core_lowering_rules.specs.TreesOf.{expr_of, init_of, condition_of, variable_of, start_of, resource_of}
+use Rattle.core_lowering_rules.specs.TreesOf.{resources_of}
 use Rattle.core_lowering_rules.proofs.TreeSteps.{TreeFact, HasExpr, HasInit, Exprs, Initialisers, Layer, InitLayer}
 use Rattle.core_lowering_rules.proofs.TreeSteps.{OfLayer, OfInitLayer, TreeSteps, expr-all, init-all}
 use Rattle.core_lowering_rules.proofs.PlacedTrees.{PlacedExpr, PlacedAccess, PlacedExprs, PlacedInit, PlacedInits}
-use Rattle.core_lowering_rules.proofs.PlacedTrees.{PlacedOption, PlacedBegin, PlacedVariables, PlacedStart, PlacedStmt}
-use Rattle.core_lowering_rules.proofs.PlacedTrees.{PlacedStmts, PlacedCatches, put-placed}
+use Rattle.core_lowering_rules.proofs.PlacedTrees.{PlacedOption, PlacedBegin, PlacedVariables, PlacedStart}
+use Rattle.core_lowering_rules.proofs.PlacedTrees.{PlacedCondition, PlacedResources}
 
 module _ (test : Place → Bool) where
   -- where the places that are put before some pass, and these, this holds, and these pass
@@ -59,13 +51,13 @@ module _ (test : Place → Bool) where
         OfArray = λ v puts t. Splits puts (PlacedInits test t);
       }
 
-  behind : (ps rest : List Place) → list_all test (ps ++ rest) ≡ true → list_all test rest ≡ true
+  pub behind : (ps rest : List Place) → list_all test (ps ++ rest) ≡ true → list_all test rest ≡ true
   behind ps rest h = (and_parts (list_all test ps) _ (sym (list_all-append test ps rest) ∙ h)).1
 
-  front : (p : Place) (rest : List Place) → list_all test (p ∷ rest) ≡ true → test p ≡ true
+  pub front : (p : Place) (rest : List Place) → list_all test (p ∷ rest) ≡ true → test p ≡ true
   front p rest h = (and_parts (test p) _ h).0
 
-  after : (p : Place) (rest : List Place) → list_all test (p ∷ rest) ≡ true → list_all test rest ≡ true
+  pub after : (p : Place) (rest : List Place) → list_all test (p ∷ rest) ≡ true → list_all test rest ≡ true
   after p rest h = (and_parts (test p) _ h).1
 
   -- ---- expressions
@@ -195,7 +187,7 @@ module _ (test : Place → Bool) where
   steps : TreeSteps keeping
   steps = record { of_expr = expr-split; of_init = init-split; of_items = λ is comma rest h. inits-split is rest h }
 
-  expr-kept : (e : Expression) → HasExpr keeping e
+  pub expr-kept : (e : Expression) → HasExpr keeping e
   expr-kept = expr-all keeping steps
 
   pub init-kept : (i : Initialiser) → HasInit keeping i
@@ -203,14 +195,14 @@ module _ (test : Place → Bool) where
 
   -- ---- parts of statements
 
-  all-kept : (es : List Expression) →
+  pub all-kept : (es : List Expression) →
       Splits (each_puts (map expr_places es)) (PlacedExprs test (pack_exprs (map expr_of es)))
   all-kept [] rest h = (tt, h)
   all-kept (e ∷ es) rest h =
       let p = expr-kept e (each_puts (map expr_places es) rest) h in
       let q = all-kept es rest p.1 in ((p.0, q.0), q.1)
 
-  some-kept : (o : Option Expression) →
+  pub some-kept : (o : Option Expression) →
       Splits (maybe_puts (option_map expr_places o)) (PlacedOption test (option_map expr_of o))
   some-kept None rest h = (tt, h)
   some-kept (Some e) rest h = expr-kept e rest h
@@ -229,264 +221,41 @@ module _ (test : Place → Bool) where
       (after v.name.place (maybe_puts (option_map init_places v.initialiser) others) h) in
       let q = variables-kept vs rest p.1 in ((p.0, q.0), q.1)
 
-  locals-kept : (l : LocalsTree) → Splits (locals_places l) (PlacedVariables test (map variable_of l.variables))
+  pub locals-kept : (l : LocalsTree) → Splits (locals_places l) (PlacedVariables test (map variable_of l.variables))
   locals-kept l rest h =
       variables-kept l.variables rest (behind (ty_places l.kind) (each_puts (map variable_places l.variables) rest) h)
 
-  start-kept : (i : StartTree) → Splits (start_places i) (PlacedStart test (start_of i))
+  pub start-kept : (i : StartTree) → Splits (start_places i) (PlacedStart test (start_of i))
   start-kept (start.Local l) rest h = locals-kept l rest h
   start-kept (start.Expressions all) rest h = all-kept all rest h
 
-  -- ---- statements that are seen whole
+  pub tested-kept : (o : Option Expression) →
+      Splits (maybe_puts (option_map expr_places o)) (PlacedCondition test (option_map condition_of o))
+  tested-kept None rest h = (tt, h)
+  tested-kept (Some e) rest h = expr-kept e rest h
 
-  abbrev IsPart : Stmt → Type 0
-  IsPart s = is_part s ≡ true
+  list-kept : (rs : List ResourceTree) →
+      Splits (each_puts (map resource_places rs)) (PlacedResources test (map resource_of rs))
+  list-kept [] rest h = (tt, h)
+  list-kept (r ∷ rs) rest h =
+      let others = each_puts (map resource_places rs) rest in
+      let p = expr-kept r.value others
+      (after r.name.place (expr_places r.value others)
+      (behind (ty_places r.kind) (r.name.place ∷ expr_places r.value others) h)) in
+      let q = list-kept rs rest p.1 in ((p.0, q.0), q.1)
 
-  abbrev AreParts : tree.Stmts → Type 0
-  AreParts ss = are_parts ss ≡ true
+  pub resources-kept : (o : Option ResourcesTree) →
+      Splits (maybe_puts (option_map resources_places o)) (PlacedResources test (resources_of o))
+  resources-kept None rest h = (tt, h)
+  resources-kept (Some rs) rest h = list-kept rs.items rest h
 
-  abbrev pub HasStmt : Statement → Type 0
-  HasStmt s = IsPart (stmt_of s) → Splits (stmt_places s) (PlacedStmt test (stmt_of s))
+  -- nothing is said of labels, and of what is not lowered: only that places behind them pass
+  pub labels-kept : (ls : List LabelTree) → Splits (each_puts (map label_places ls)) (Unit {0})
+  labels-kept [] rest h = (tt, h)
+  labels-kept (label.Case e ∷ ls) rest h =
+      let p = expr-kept e (each_puts (map label_places ls) rest) h in labels-kept ls rest p.1
+  labels-kept (label.Default ∷ ls) rest h = labels-kept ls rest h
 
-  abbrev HasCatch : CatchTree → Type 0
-  HasCatch c = AreParts (catch_of c).1 → Splits (catch_places c) (PlacedStmts test (catch_of c).1)
-
-  abbrev HasTry : TryTree → Type 0
-  HasTry t = IsPart (try_of t) → Splits (try_places t) (PlacedStmt test (try_of t))
-
-  abbrev Stmts : Type 0
-  Stmts = (s : Statement) × HasStmt s
-
-  abbrev Catches : Type 0
-  Catches = (c : CatchTree) × HasCatch c
-
-  -- nothing is said of groups
-  abbrev Groups : Type 0
-  Groups = GroupTree × Unit {0}
-
-  abbrev Tries : Type 0
-  Tries = (t : TryTree) × HasTry t
-
-  abbrev StmtLayer : Type 0
-  StmtLayer = statement.Statement-F Stmts Catches Groups Tries
-
-  abbrev PlainStmt : Type 0
-  PlainStmt = statement.Statement-F Statement CatchTree GroupTree TryTree
-
-  abbrev plain_stmt : StmtLayer → PlainStmt
-  plain_stmt y =
-      map-Statement Stmts Catches Groups Tries Statement CatchTree GroupTree TryTree (λ s. s.0) (λ c. c.0) (λ g. g.0)
-      (λ t. t.0) y
-
-  abbrev stmt_places_in : PlainStmt → Puts
-  stmt_places_in x =
-      kept.stmt_step
-      (map-Statement Statement CatchTree GroupTree TryTree Puts Puts Puts Puts stmt_places catch_places group_places
-      try_places x)
-
-  abbrev stmt_lowered_in : PlainStmt → Stmt
-  stmt_lowered_in x =
-      lowered.stmt_step
-      (map-Statement Statement CatchTree GroupTree TryTree Stmt lowered.Clause (Unit {0}) Stmt stmt_of catch_of group_of
-      try_of x)
-
-  abbrev plain_all : List Stmts → List Statement
-  plain_all ss = map (λ s. s.0) ss
-
-  stmts-split : (ss : List Stmts) → AreParts (pack_stmts (map stmt_of (plain_all ss))) →
-      Splits (each_puts (map stmt_places (plain_all ss))) (PlacedStmts test (pack_stmts (map stmt_of (plain_all ss))))
-  stmts-split [] low rest h = (tt, h)
-  stmts-split (s ∷ ss) low rest h =
-      let more = pack_stmts (map stmt_of (plain_all ss)) in
-      let two = put-parts (stmt_of s.0) more low in
-      let p = s.1 two.0 (each_puts (map stmt_places (plain_all ss)) rest) h in
-      let q = stmts-split ss two.1 rest p.1 in (put-placed test (stmt_of s.0) more p.0 q.0, q.1)
-
-  stmt-split : (y : StmtLayer) → IsPart (stmt_lowered_in (plain_stmt y)) →
-      Splits (stmt_places_in (plain_stmt y)) (PlacedStmt test (stmt_lowered_in (plain_stmt y)))
-  stmt-split (statement.Block ss) low rest h = stmts-split ss.items low rest h
-  stmt-split (statement.Local l) low rest h = locals-kept l rest h
-  stmt-split (statement.Expr e) low rest h = expr-kept e rest h
-  stmt-split (statement.If e s None) low rest h =
-      let p = expr-kept e (stmt_places s.value.0 rest) h in
-      let q = s.value.1 low rest p.1 in ((p.0, q.0), q.1)
-  stmt-split (statement.If e s (Some t)) low rest h =
-      let p = expr-kept e (stmt_places s.value.0 (stmt_places t.value.0 rest)) h in
-      let first = is_part (stmt_of s.value.0) in
-      let q = s.value.1 (and_parts first _ low).0 (stmt_places t.value.0 rest) p.1 in
-      let r = t.value.1 (and_parts first _ low).1 rest q.1 in ((p.0, q.0, r.0), r.1)
-  stmt-split (statement.While e s) low rest h =
-      let p = expr-kept e (stmt_places s.value.0 rest) h in
-      let q = s.value.1 low rest p.1 in ((p.0, q.0), q.1)
-  stmt-split (statement.For i condition updates s) low rest h =
-      let last = stmt_places s.value.0 rest in
-      let third = each_puts (map expr_places updates.items) last in
-      let a = start-kept i (maybe_puts (option_map expr_places condition) third) h in
-      let b = some-kept condition third a.1 in
-      let c = all-kept updates.items last b.1 in
-      let d = s.value.1 low rest c.1 in ((a.0, b.0, c.0, d.0), d.1)
-  stmt-split (statement.ForEach is_final t x e s) low rest h =
-      let last = stmt_places s.value.0 rest in
-      let p = expr-kept e last
-      (after x.place (expr_places e last) (behind (ty_places t) (x.place ∷ expr_places e last) h)) in
-      let q = s.value.1 low rest p.1 in ((p.0, q.0), q.1)
-  stmt-split (statement.Sync place e ss) low rest h =
-      let last = each_puts (map stmt_places (plain_all ss.items)) rest in
-      let p = expr-kept e last (after place (expr_places e last) h) in
-      let q = stmts-split ss.items low rest p.1 in ((front place (expr_places e last) h, p.0, q.0), q.1)
-  stmt-split (statement.Return e) low rest h = some-kept e rest h
-  stmt-split statement.Empty low rest h = (tt, h)
-  stmt-split (statement.Do s e) low rest h = absurd (not-lowered low)
-  stmt-split (statement.Throw place e) low rest h = absurd (not-lowered low)
-  stmt-split (statement.Break x) low rest h = absurd (not-lowered low)
-  stmt-split (statement.Continue x) low rest h = absurd (not-lowered low)
-  stmt-split (statement.Labelled x s) low rest h = absurd (not-lowered low)
-  stmt-split (statement.Assert e f) low rest h = absurd (not-lowered low)
-  stmt-split (statement.Switch e gs) low rest h = absurd (not-lowered low)
-  stmt-split (statement.Try t) low rest h = t.value.1 low rest h
-
-  stmt-has : (x : PlainStmt) (y : StmtLayer) → plain_stmt y ≡ x → HasStmt (roll-Statement x)
-  stmt-has x y is =
-      let places : stmt_places (roll-Statement (plain_stmt y)) ≡ stmt_places_in (plain_stmt y) =
-      search (rules, statements.the_lemmas) in
-      let lower : stmt_of (roll-Statement (plain_stmt y)) ≡ stmt_lowered_in (plain_stmt y) =
-      search (rules, statements.the_lemmas) in
-      subst (λ z. HasStmt (roll-Statement z)) is
-      (λ low. subst (λ (f : Puts). Splits f (PlacedStmt test (stmt_of (roll-Statement (plain_stmt y))))) (sym places)
-      (subst (λ (t : Stmt). Splits (stmt_places_in (plain_stmt y)) (PlacedStmt test t)) (sym lower)
-      (stmt-split y (subst IsPart lower low))))
-
-  -- ---- catch clauses
-
-  abbrev CatchLayer : Type 0
-  CatchLayer = statement.CatchTree-F Stmts Catches Groups Tries
-
-  abbrev PlainCatch : Type 0
-  PlainCatch = statement.CatchTree-F Statement CatchTree GroupTree TryTree
-
-  abbrev plain_catch : CatchLayer → PlainCatch
-  plain_catch y =
-      map-CatchTree Stmts Catches Groups Tries Statement CatchTree GroupTree TryTree (λ s. s.0) (λ c. c.0) (λ g. g.0)
-      (λ t. t.0) y
-
-  abbrev catch_places_in : PlainCatch → Puts
-  catch_places_in x =
-      kept.catch_step
-      (map-CatchTree Statement CatchTree GroupTree TryTree Puts Puts Puts Puts stmt_places catch_places group_places
-      try_places x)
-
-  abbrev catch_lowered_in : PlainCatch → lowered.Clause
-  catch_lowered_in x =
-      lowered.catch_step
-      (map-CatchTree Statement CatchTree GroupTree TryTree Stmt lowered.Clause (Unit {0}) Stmt stmt_of catch_of group_of
-      try_of x)
-
-  catch-split : (y : CatchLayer) → AreParts (catch_lowered_in (plain_catch y)).1 →
-      Splits (catch_places_in (plain_catch y)) (PlacedStmts test (catch_lowered_in (plain_catch y)).1)
-  catch-split y low rest h =
-      let p = y.parameter in
-      let last = each_puts (map stmt_places (plain_all y.body.items)) rest in
-      stmts-split y.body.items low rest
-      (after p.name.place last (behind (all_places (map ty_places p.types)) (p.name.place ∷ last) h))
-
-  catch-has : (x : PlainCatch) (y : CatchLayer) → plain_catch y ≡ x → HasCatch (roll-CatchTree x)
-  catch-has x y is =
-      let places : catch_places (roll-CatchTree (plain_catch y)) ≡ catch_places_in (plain_catch y) =
-      search (rules, statements.the_lemmas) in
-      let lower : catch_of (roll-CatchTree (plain_catch y)) ≡ catch_lowered_in (plain_catch y) =
-      search (rules, statements.the_lemmas) in
-      subst (λ z. HasCatch (roll-CatchTree z)) is
-      (λ low.
-      subst (λ (f : Puts). Splits f (PlacedStmts test (catch_of (roll-CatchTree (plain_catch y))).1)) (sym places)
-      (subst (λ (c : lowered.Clause). Splits (catch_places_in (plain_catch y)) (PlacedStmts test c.1)) (sym lower)
-      (catch-split y (subst (λ (c : lowered.Clause). AreParts c.1) lower low))))
-
-  -- ---- a `try`
-
-  abbrev TryLayer : Type 0
-  TryLayer = statement.TryTree-F Stmts Catches Groups Tries
-
-  abbrev PlainTry : Type 0
-  PlainTry = statement.TryTree-F Statement CatchTree GroupTree TryTree
-
-  abbrev plain_try : TryLayer → PlainTry
-  plain_try y =
-      map-TryTree Stmts Catches Groups Tries Statement CatchTree GroupTree TryTree (λ s. s.0) (λ c. c.0) (λ g. g.0)
-      (λ t. t.0) y
-
-  abbrev try_places_in : PlainTry → Puts
-  try_places_in x =
-      kept.try_step
-      (map-TryTree Statement CatchTree GroupTree TryTree Puts Puts Puts Puts stmt_places catch_places group_places
-      try_places x)
-
-  abbrev try_lowered_in : PlainTry → Stmt
-  try_lowered_in x =
-      lowered.try_step
-      (map-TryTree Statement CatchTree GroupTree TryTree Stmt lowered.Clause (Unit {0}) Stmt stmt_of catch_of group_of
-      try_of
-      x)
-
-  abbrev plain_catches : List Catches → List CatchTree
-  plain_catches cs = map (λ c. c.0) cs
-
-  clauses-split : (cs : List Catches) → are_parts_caught (pack_catches (map catch_of (plain_catches cs))) ≡ true →
-      Splits (each_puts (map catch_places (plain_catches cs)))
-      (PlacedCatches test (pack_catches (map catch_of (plain_catches cs))))
-  clauses-split [] low rest h = (tt, h)
-  clauses-split (c ∷ cs) low rest h =
-      let first = are_parts (catch_of c.0).1 in
-      let p = c.1 (and_parts first _ low).0 (each_puts (map catch_places (plain_catches cs)) rest) h in
-      let q = clauses-split cs (and_parts first _ low).1 rest p.1 in ((p.0, q.0), q.1)
-
-  abbrev of_parts : Option ResourcesTree → Vec Stmts Global → Vec Catches Global → Option (Vec Stmts Global) → TryLayer
-  of_parts rs body cs finally = record { resources = rs; body = body; clauses = cs; finally = finally }
-
-  abbrev TrySplit : TryLayer → Type 0
-  TrySplit y =
-      IsPart (try_lowered_in (plain_try y)) →
-      Splits (try_places_in (plain_try y)) (PlacedStmt test (try_lowered_in (plain_try y)))
-
-  parts-split : (rs : Option ResourcesTree) (body : Vec Stmts Global) (cs : Vec Catches Global)
-      (finally : Option (Vec Stmts Global)) → TrySplit (of_parts rs body cs finally)
-  parts-split None body cs (Some finally) low rest h =
-      let first = are_parts (pack_stmts (map stmt_of (plain_all body.items))) in
-      let second = are_parts_caught (pack_catches (map catch_of (plain_catches cs.items))) in
-      let more = (and_parts first _ low).1 in
-      let last = each_puts (map stmt_places (plain_all finally.items)) rest in
-      let p = stmts-split body.items (and_parts first _ low).0
-      (each_puts (map catch_places (plain_catches cs.items)) last)
-      h in
-      let q = clauses-split cs.items (and_parts second _ more).0 last p.1 in
-      let r = stmts-split finally.items (and_parts second _ more).1 rest q.1 in ((p.0, q.0, r.0), r.1)
-  parts-split None body cs None low rest h = absurd (not-lowered low)
-  parts-split (Some rs) body cs (Some finally) low rest h = absurd (not-lowered low)
-  parts-split (Some rs) body cs None low rest h = absurd (not-lowered low)
-
-  try-split : (y : TryLayer) → TrySplit y
-  try-split y = parts-split y.resources y.body y.clauses y.finally
-
-  try-has : (x : PlainTry) (y : TryLayer) → plain_try y ≡ x → HasTry (roll-TryTree x)
-  try-has x y is =
-      let places : try_places (roll-TryTree (plain_try y)) ≡ try_places_in (plain_try y) =
-      search (rules, statements.the_lemmas) in
-      let lower : try_of (roll-TryTree (plain_try y)) ≡ try_lowered_in (plain_try y) =
-      search (rules, statements.the_lemmas) in
-      subst (λ z. HasTry (roll-TryTree z)) is
-      (λ low. subst (λ (f : Puts). Splits f (PlacedStmt test (try_of (roll-TryTree (plain_try y))))) (sym places)
-      (subst (λ (t : Stmt). Splits (try_places_in (plain_try y)) (PlacedStmt test t)) (sym lower)
-      (try-split y (subst IsPart lower low))))
-
-  -- ---- all
-
-  stmt-kept : (s : Statement) → HasStmt s
-  stmt-kept = ind-Statement HasStmt HasCatch (λ g. Unit {0}) HasTry stmt-has catch-has (λ x y is. tt) try-has
-
-  pub stmts-kept : (ss : List Statement) → AreParts (pack_stmts (map stmt_of ss)) →
-      Splits (each_puts (map stmt_places ss)) (PlacedStmts test (pack_stmts (map stmt_of ss)))
-  stmts-kept [] low rest h = (tt, h)
-  stmts-kept (s ∷ ss) low rest h =
-      let more = pack_stmts (map stmt_of ss) in
-      let two = put-parts (stmt_of s) more low in
-      let p = stmt-kept s two.0 (each_puts (map stmt_places ss) rest) h in
-      let q = stmts-kept ss two.1 rest p.1 in (put-placed test (stmt_of s) more p.0 q.0, q.1)
+  pub name-kept : (o : Option Ident) → Splits (maybe_puts (option_map name_places o)) (Unit {0})
+  name-kept None rest h = (tt, h)
+  name-kept (Some x) rest h = (tt, after x.place rest h)

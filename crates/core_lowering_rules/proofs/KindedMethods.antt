@@ -1,7 +1,7 @@
 -- Lowered methods are kinded, whatever is in them.
 use Rattle.std.proofs.Common.{◌≡◌, ℕ, Bool, true, false, cond, List, [], ◌∷◌, ◌++◌, Option, Some, None, map}
 use Rattle.std.proofs.Common.{refl}
-use Rattle.std.proofs.Common.{sym, ap, ◌∙◌, append_assoc, append-nil, slice_get, is_some}
+use Rattle.std.proofs.Common.{subst, sym, ap, ◌∙◌, append_assoc, append-nil, slice_get, is_some}
 use Rattle.std.specs.Prelude.{codes}
 use Rattle.std.specs.List.{flat_map}
 use Rattle.std.proofs.lemmas.Bool.{and_from}
@@ -32,31 +32,37 @@ use Rattle.core_code.specs.KindCheck.{begins_with}
 use Rattle.core_code.specs.KindCheck.{is_kinded, variable_at}
 use Rattle.core_code.specs.Calls.{taken_by}
 use Rattle.core_code.proofs.KindLemmas.{class_same}
-use Rattle.core_lowering_rules.specs.Trees.{Stmts}
 use Rattle.core_lowering_rules.specs.TreesOf.{init_of}
 use Rattle.core_lowering_rules.specs.ValueKinds.{ValueKind, Of}
 use Rattle.core_lowering_rules.specs.ValueKinds as value
-use Rattle.core_lowering_rules.specs.Context.{Folder, Context, Itself, Code, op, push_this, push_own_class}
-use Rattle.core_lowering_rules.specs.Context.{type_kind}
+use Rattle.core_lowering_rules.specs.Context.{Folder, Context, Guard, Itself, Code, op, push_this, push_own_class}
+use Rattle.core_lowering_rules.specs.Context.{push_owner, type_kind, made as made_code}
 use Rattle.core_lowering_rules.specs.Assignments.{of_name, kind_in}
 use Rattle.core_lowering_rules.specs.Expressions.{init_kind, init_code}
-use Rattle.core_lowering_rules.specs.Scopes.{declared, after_all}
-use Rattle.core_lowering_rules.specs.Statements.{returned}
+use Rattle.core_lowering_rules.specs.Scopes.{declared, after_all, after_return}
+use Rattle.core_lowering_rules.specs.Statements.{returned, closed, stmts}
 use Rattle.core_lowering_rules.specs.Methods.{Body, Default, Spelled, Unspelled, Source, result_of_tree, result_of}
 use Rattle.core_lowering_rules.specs.Methods.{this_kinds, entered}
 use Rattle.core_lowering_rules.specs.Methods.{parameters_declared, unread, field_begun, member_begun, fields_begun}
-use Rattle.core_lowering_rules.specs.Methods.{body_of, block}
+use Rattle.core_lowering_rules.specs.Methods.{body_of, is_large}
 use Rattle.core_lowering_rules.specs.Methods.{locked, ended, spelled_code, method_code}
 use Rattle.core_lowering_rules.specs.Programs.{method_core}
-use Rattle.core_lowering_rules.proofs.Runs.{Runs, whole, nothing, followed, once, outside}
+use Rattle.core_lowering_drafts.specs.Drafts.{in_order}
+use Rattle.core_lowering_drafts.specs.Only.{Code as Trees, all_ends}
+use Rattle.core_lowering_drafts.proofs.Steady.{steady-alone}
+use Rattle.core_lowering_rules.proofs.Runs.{Runs, TreesRun, whole, no_trees, trees_followed, trees_locked, followed}
+use Rattle.core_lowering_rules.proofs.Runs.{once}
+use Rattle.core_lowering_rules.proofs.Runs.{outside}
 use Rattle.core_lowering_rules.proofs.Runs as runs
 use Rattle.core_lowering_rules.proofs.NumberedTrees.{SiteFact, same-numbered}
 use Rattle.core_lowering_rules.proofs.Stands.{Stands, FolderStands, IsResult}
 use Rattle.core_lowering_rules.proofs.KindedAccesses.{Leaves, pushes, assigned-leaves, is-named}
 use Rattle.core_lowering_rules.proofs.KindedExpressions.{init-leaves}
 use Rattle.core_lowering_rules.proofs.GrownScopes.{grows-after_all, grows-parameters, HasKinds, has-earlier}
-use Rattle.core_lowering_rules.proofs.GrownScopes.{after_all-stands, parameters-stand}
-use Rattle.core_lowering_rules.proofs.KindedStatements.{Keeps, closed-keeps, returned-keeps, stmts-keep}
+use Rattle.core_lowering_rules.proofs.GrownScopes.{parameters-stand}
+use Rattle.core_lowering_rules.proofs.ScopeSteps.{return_in}
+use Rattle.core_lowering_rules.proofs.KindedDrafts.{Keeps, made-runs, keeps-nothing, keeps-both, keeps-value}
+use Rattle.core_lowering_rules.proofs.KindedStatements.{returned-keeps, block-keeps}
 
 -- ---- parameters
 
@@ -71,14 +77,21 @@ kinds-parameters context (p ∷ ps) =
     kinds-parameters (declared context k p.name) ps
     ∙ append_assoc context.kinds (k ∷ []) (map (parameter_kind context) ps)
 
+pub guards-parameters : (context : Context) (ps : List ParameterTree) →
+    (parameters_declared context ps).guards ≡ context.guards
+guards-parameters context [] = refl
+guards-parameters context (p ∷ ps) =
+    guards-parameters (declared context (type_kind context (ty_of p.kind)) p.name) ps
+
 module _ (core : Core) (m : Method) where
   -- ---- fields
 
   dropped : (context : Context) {code : Code} {kind : ValueKind} → Leaves core m code kind →
       Keeps core m (code ++ op context Drop)
   dropped context l =
-      let value = l.leaves [] in followed core m value.2 (once core m context.place Drop
-      (value.0 ∷ []) [] [] refl refl refl refl)
+      let value = l.leaves [] in
+      keeps-value core m
+      (followed core m value.2 (once core m context.place Drop (value.0 ∷ []) [] [] refl refl refl refl))
 
   unread-leaves : (context : Context) (k : ValueKind) → Leaves core m (unread context k) (Of types.Other)
   unread-leaves context value.Null = record {
@@ -101,7 +114,7 @@ module _ (core : Core) (m : Method) where
 
   field-keeps : (context : Context) → Stands core m context → (x : Ident) (i : FieldInitialiser) →
       Keeps core m (field_begun context x i)
-  field-keeps context s x field.Absent = nothing core m []
+  field-keeps context s x field.Absent = keeps-nothing core m
   field-keeps context s x (field.Formed i) =
       dropped context
       (assigned-leaves core m context s (of_name context x) (is-named core m context s x)
@@ -114,11 +127,11 @@ module _ (core : Core) (m : Method) where
 
   each-keeps : {A : Type 0} (f : A → Code) → ((x : A) → Keeps core m (f x)) → (xs : List A) →
       Keeps core m (flat_map f xs)
-  each-keeps f keeps [] = nothing core m []
-  each-keeps f keeps (x ∷ xs) = followed core m (keeps x) (each-keeps f keeps xs)
+  each-keeps f keeps [] = keeps-nothing core m
+  each-keeps f keeps (x ∷ xs) = keeps-both core m (keeps x) (each-keeps f keeps xs)
 
   unless-static : {code : Code} (b : Bool) → Keeps core m code → Keeps core m (cond b [] code)
-  unless-static true k = nothing core m []
+  unless-static true k = keeps-nothing core m
   unless-static false k = k
 
   member-keeps : (context : Context) → Stands core m context → (x : Member) → Keeps core m (member_begun context x)
@@ -126,9 +139,9 @@ module _ (core : Core) (m : Method) where
       unless-static (has_word (codes "static") f.modifiers)
       (each-keeps (λ (v : FieldVariable). field_begun context v.name v.initialiser)
       (λ v. field-keeps context s v.name v.initialiser) f.variables)
-  member-keeps context s (member.Method t) = nothing core m []
-  member-keeps context s (member.Outside h) = nothing core m []
-  member-keeps context s (member.Skipped place) = nothing core m []
+  member-keeps context s (member.Method t) = keeps-nothing core m
+  member-keeps context s (member.Outside h) = keeps-nothing core m
+  member-keeps context s (member.Skipped place) = keeps-nothing core m
 
   abbrev without_variables : Context → Context
   without_variables context = record context { scope = record context.scope { variables = [] } }
@@ -140,6 +153,8 @@ module _ (core : Core) (m : Method) where
         variables = tt;
         object = s.object;
         gives = s.gives;
+        given = s.given;
+        guards = s.guards;
       }
 
   fields-keep : (context : Context) → Stands core m context → (members : List Member) →
@@ -149,6 +164,10 @@ module _ (core : Core) (m : Method) where
       (member-keeps (without_variables context) (bare-stands context s)) members
 
   -- ---- bodies
+
+  -- core code that leaves the empty stack empty
+  abbrev pub Empties : Trees → Type 0
+  Empties code = TreesRun core m code [] []
 
   owner : (context : Context) → Stands core m context → (b : Bool) → context.scope.is_static ≡ b →
       (lock : StackKind) × Runs core m (cond b (push_own_class context) (push_this context)) [] (lock ∷ [])
@@ -162,38 +181,51 @@ module _ (core : Core) (m : Method) where
     pushes core m context s context.place (record { 0 = 0 }) (types.Declared context.scope.class) [] (s.object e),
   )
 
-  locked-keeps : (context : Context) → Stands core m context → (b : Bool) {body : Code} → Keeps core m body →
-      Keeps core m (locked context b body)
-  locked-keeps context s true x =
+  -- a value as core code
+  made-value : {a : Code} {before after : List StackKind} → Runs core m a before after →
+      TreesRun core m (made_code a) before after
+  made-value {a} {before} {after} r =
+      subst (λ (c : Trees). TreesRun core m c before after) (sym (steady-alone (in_order a) r.steady all_ends refl))
+      r.own
+
+  locked-empties : (context : Context) → Stands core m context → (b : Bool) {body : Trees} → Empties body →
+      Empties (locked context b body)
+  locked-empties context s true {body} x =
       let lock = owner context s context.scope.is_static refl in
-      followed core m lock.1 (runs.locked core m Own context.place lock.0 x)
-  locked-keeps context s false x = x
+      trees_followed core m (made_code (push_owner context)) _ (made-value lock.1)
+      (trees_locked core m Own context.place lock.0 body x)
+  locked-empties context s false x = x
 
-  block-keeps : (context : Context) → Stands core m context → (ss : Stmts) → HasKinds m (after_all context ss) →
-      Keeps core m (block context ss)
-  block-keeps context s ss h =
-      followed core m (stmts-keep core m context s ss h)
-      (closed-keeps core m context (after_all context ss) s (after_all-stands core m context ss s h))
+  by-end : (b : Bool) {body last : Trees} → Empties body → Empties last → Empties (cond b (body ++ last) body)
+  by-end true {body} {last} x y = trees_followed core m body last x y
+  by-end false x y = x
 
-  ends : (context : Context) → Stands core m context → (b : Bool) {body : Code} → Keeps core m body →
-      Keeps core m (cond b (body ++ returned context None) body)
-  ends context s true x = followed core m x (returned-keeps core m context s None)
-  ends context s false x = x
+  -- outside of each `finally`
+  ended-empties : (context : Context) → Stands core m context → HasKinds m context → context.guards ≡ [] →
+      {body : Trees} → Empties body → Empties (ended context body)
+  ended-empties context s h e {body} x =
+      let same : HasKinds m (after_return context) =
+      subst (λ (all : List Guard). HasKinds m (return_in context all)) (sym e) h in
+      by-end (can_end (in_sequence body)) x
+      (made-runs core m (returned context None) (returned-keeps core m context s same None))
 
-  ended-keeps : (context : Context) → Stands core m context → {body : Code} → Keeps core m body →
-      Keeps core m (ended context body)
-  ended-keeps context s {body} x = ends context s (can_end (in_sequence body)) x
-
-  fields-first : (b : Bool) {first body : Code} → Keeps core m first → Keeps core m body →
-      Keeps core m (cond b (first ++ body) body)
-  fields-first true x y = followed core m x y
+  fields-first : (b : Bool) {first body : Trees} → Empties first → Empties body →
+      Empties (cond b (first ++ body) body)
+  fields-first true {first} {body} x y = trees_followed core m first body x y
   fields-first false x y = y
 
-  spelled-keeps : (context : Context) → Stands core m context → (members : List Member) (t : MethodTree) →
-      HasKinds m (after_all context (body_of t)) → Keeps core m (spelled_code context members t)
-  spelled-keeps context s members t h =
-      fields-first (is_constructor t.result) (fields-keep context s members)
-      (locked-keeps context s (has_word (codes "synchronized") t.modifiers) (block-keeps context s (body_of t) h))
+  spelled-empties : (context : Context) → Stands core m context → (members : List Member) (t : MethodTree) →
+      HasKinds m (after_all context (body_of t)) → Empties (spelled_code context members t)
+  spelled-empties context s members t h =
+      fields-first (is_constructor t.result)
+      (made-runs core m (fields_begun context members) (fields-keep context s members))
+      (locked-empties context s (has_word (codes "synchronized") t.modifiers)
+      (made-runs core m (closed context (after_all context (body_of t)) (stmts context (body_of t)))
+      (block-keeps core m context s (body_of t) h)))
+
+  unless-large : (b : Bool) {body : Trees} → Empties body → Empties (cond b [] body)
+  unless-large true x = no_trees core m []
+  unless-large false x = x
 
   -- ---- sites
 
@@ -292,10 +324,12 @@ module _ (core : Core) (folder : Folder) (known : FolderStands core folder) (inf
         variables = tt;
         object = object-there m body h;
         gives = gives-right m body same h right;
+        given = sym same;
+        guards = tt;
       }
 
   -- the code keeps the empty stack, and the variables begin with what the method takes
-  checked : (body : Body) (more : List Kind) → Keeps core (made body) (method_code folder (source body)) →
+  checked : (body : Body) (more : List Kind) → Empties core (made body) (method_code folder (source body)) →
       (made body).variables ≡ (this_kinds info ++ info.parameters) ++ more → is_kinded core (made body) ≡ true
   checked body more keeps variables =
       let takes : begins_with (taken_by (made body)) (made body).variables ≡ true =
@@ -310,13 +344,14 @@ module _ (core : Core) (folder : Folder) (known : FolderStands core folder) (inf
       (is_some (kinds_after core (made body) (made body).code [])) takes (ap (is_some {T = List StackKind}) code)
 
   pub method-keeps : (body : Body) → IsRight (class_names folder.classes) info body →
-      Keeps core (made body) (method_code folder (source body))
+      Empties core (made body) (method_code folder (source body))
   method-keeps Default right =
       let m = made Default in
       let context = entered folder (source Default) in
       let h : HasKinds m context = record { rest = []; all = sym (append-nil (this_kinds info)) } in
       let s = entered-stands m Default refl h right in
-      ended-keeps core m context s (fields-keep core m context s members)
+      ended-empties core m context s h refl
+      (made-runs core m (fields_begun context members) (fields-keep core m context s members))
   method-keeps (Spelled t) right =
       let m = made (Spelled t) in
       let context = entered folder (source (Spelled t)) in
@@ -327,8 +362,10 @@ module _ (core : Core) (folder : Folder) (known : FolderStands core folder) (inf
       let s = entered-stands m (Spelled t) refl
       (has-earlier m context inside (grows-parameters context t.parameters) first) right in
       let stands = parameters-stand core m context t.parameters s first in
-      ended-keeps core m context s (spelled-keeps core m inside stands members t last)
-  method-keeps Unspelled right = nothing core (made Unspelled) []
+      unless-large core m (is_large inside t)
+      (ended-empties core m inside stands first (guards-parameters context t.parameters)
+      (spelled-empties core m inside stands members t last))
+  method-keeps Unspelled right = no_trees core (made Unspelled) []
 
   pub kinded : (body : Body) → IsRight (class_names folder.classes) info body → is_kinded core (made body) ≡ true
   kinded Default right =

@@ -31,11 +31,10 @@ use Rattle.core_code.specs.declared.code.Reason.{Reason}
 use Rattle.core_code.specs.Core.{Core, Method}
 use Rattle.core_code.specs.KindCheck.{is_kinded, are_kinded}
 use Rattle.core_lowering_rules.specs.Context.{Folder}
-use Rattle.core_lowering_rules.specs.Methods.{Source, Default, Spelled, Unspelled, body_of}
-use Rattle.core_lowering_rules.specs.LoweredForms.{are_lowered}
+use Rattle.core_lowering_rules.specs.Methods.{Source, Default}
 use Rattle.core_lowering_rules.specs.Programs.{member_sources, default_sources, class_sources, sources_of}
 use Rattle.core_lowering_rules.specs.Programs.{field_core, folder_of, method_core, method_cores, program_of}
-use Rattle.core_lowering_rules.proofs.FoundElements.{Each, each-append, each-flat_map}
+use Rattle.core_lowering_rules.proofs.FoundElements.{Each, each-append, each-flat_map, unless}
 use Rattle.core_lowering_rules.proofs.Stands.{FolderStands, HasMethod}
 use Rattle.core_lowering_rules.proofs.KindedMethods.{IsRight, IsRightResult, kinded}
 
@@ -53,10 +52,6 @@ pub each-at : {A : Type 0} (P : A → Type 0) (xs : List A) (n : ℕ) (x : A) �
 each-at P [] n x all e = absurd (none-some _ e)
 each-at P (y ∷ ys) zero x all e = subst P (same_Some _ _ e) all.0
 each-at P (y ∷ ys) (suc n) x all e = each-at P ys n x all.1 e
-
-pub unless : {A : Type 0} (P : A → Type 0) (b : Bool) (xs : List A) → Each P xs → Each P (cond b [] xs)
-unless P true xs all = tt
-unless P false xs all = all
 
 -- ---- sources and methods are the same
 
@@ -123,18 +118,9 @@ result-right names c t result.Constructor e = (
 result-right names c t result.Void e = ap (result_kind names c) e
 result-right names c t (result.Of k) e = tt
 
-body-right : (names : List (List ℕ)) (info : MethodInfo) (t : MethodTree) (b : Bool) → IsRight names info (Spelled t) →
-    IsRight names info (cond b (Spelled t) Unspelled)
-body-right names info t true right = right
-body-right names info t false right = tt
-
 member-right : (names : List (List ℕ)) (c : ClassId) (tree : ClassTree) (x : Member) →
     Each (IsRightSource names) (member_sources names c tree x)
-member-right names c tree (member.Method t) = (
-  body-right names (method_info names c t) t (are_lowered (body_of t))
-      (result-right names c t t.result refl, refl),
-  tt,
-)
+member-right names c tree (member.Method t) = ((result-right names c t t.result refl, refl), tt)
 member-right names c tree (member.Outside h) = (tt, tt)
 member-right names c tree (member.Field f) = tt
 member-right names c tree (member.Skipped place) = tt

@@ -17,21 +17,25 @@ pub mod ProgramFacts
 pub mod ProgramNames
 pub mod PlacedTrees
 pub mod LoweredFacts
+pub mod DraftFacts
+pub mod KindedDrafts
 pub mod StatusesUnseen
 pub mod LoweredExpressions
+pub mod LoweredScopes
+pub mod LoweredGroups
 pub mod LoweredStatements
 pub mod TreeSteps
 pub mod KeptTrees
+pub mod KeptStatements
 pub mod KeptPlaces
 pub mod LoweredMethods
 pub mod InRangeCode
 pub mod NamedCode
 pub mod NumbersInRange
 pub mod ProgramRanks
-pub mod LoweredTrees
-mod SeenTrees
 pub mod FilledTrees
 pub mod FilledExpressions
+pub mod FilledParts
 pub mod FilledStatements
 pub mod FilledMethods
 pub mod ZippedLists

@@ -43,7 +43,7 @@ use Rattle.core_lowering_rules.specs.Calls.{constructor_in, made_by, made}
 use Rattle.core_lowering_rules.specs.Expressions.{class_before, class_written, class_object, kind, cast, code}
 use Rattle.core_lowering_rules.specs.Expressions.{storage, passed, init_code, items_code}
 use Rattle.core_lowering_rules.proofs.FoundElements.{field-there}
-use Rattle.core_lowering_rules.proofs.LoweredFacts.{Tests, Grounded, Fact, is_named, joined, joined_3, joined_4, either}
+use Rattle.core_lowering_rules.proofs.LoweredFacts.{Tests, Grounded, Fact, is_value, joined, joined_3, joined_4, either}
 use Rattle.core_lowering_rules.proofs.LoweredFacts.{by_test, longer, shorter}
 use Rattle.core_lowering_rules.proofs.PlacedTrees.{PlacedExpr, PlacedAccess, PlacedExprs, PlacedInit, PlacedInits}
 use Rattle.core_lowering_rules.proofs.StatusesUnseen.{with_statuses, named-same, selected-same, callee-same}
@@ -87,7 +87,7 @@ module _ (f : Fact) (statuses : List (Option Reason)) (context : Context) (g : G
   IsPlace place = f.tests.is_place place ≡ true
 
   abbrev IsNamed : CoreOp → Type 0
-  IsNamed o = is_named f.tests.is_class f.tests.is_method o ≡ true
+  IsNamed o = is_value f.tests.is_class f.tests.is_method o ≡ true
 
   -- ---- operations
 

@@ -12,13 +12,15 @@ use Rattle.core_code.specs.declared.code.Reason.{Reason}
 use Rattle.core_code.specs.Core.{Method}
 use Rattle.core_code.specs.Tree.{Tree, Choice, Operation, steps_of, in_sequence}
 use Rattle.core_code.specs.Recursion.{named_by, all_calls_in}
-use Rattle.core_lowering_rules.specs.Context.{Context, Folder, Code, op_at, choice}
+use Rattle.core_lowering_drafts.specs.Only.{Code, one, fork}
+use Rattle.core_lowering_rules.specs.Context.{Context, Folder}
 use Rattle.core_lowering_rules.specs.Methods.{Source, entered, method_code}
 use Rattle.core_lowering_rules.specs.Programs.{method_cores, statuses_from}
 use Rattle.core_lowering_rules.specs.Sites.{numbered}
 use Rattle.core_lowering_rules.proofs.FoundElements.{Each}
 use Rattle.core_lowering_rules.proofs.NumberedTrees.{ops-numbered}
-use Rattle.core_lowering_rules.proofs.LoweredFacts.{Tests, Grounded, Fact}
+use Rattle.core_lowering_rules.proofs.LoweredFacts.{Tests, Grounded}
+use Rattle.core_lowering_rules.proofs.DraftFacts.{CoreFact, fact_of}
 use Rattle.core_lowering_rules.proofs.LoweredMethods.{in-holds}
 use Rattle.core_lowering_rules.proofs.KeptPlaces.{PlacedSource}
 
@@ -50,14 +52,14 @@ in_sequence-named (t ∷ ts) =
     flat_map-append methods_named_at (steps_of t) (steps_of (in_sequence ts))
     ∙ ap (λ (back : List MethodId). all_calls_in t ++ back) (in_sequence-named ts)
 
-choice-named : (a b : Code) → methods_named (choice a b) ≡ methods_named a ++ methods_named b
+choice-named : (a b : Code) → methods_named (fork a b) ≡ methods_named a ++ methods_named b
 choice-named a b =
     append-nil (all_calls_in (Choice (in_sequence a) (in_sequence b)))
     ∙ flat_map-append methods_named_at (steps_of (in_sequence a)) (steps_of (in_sequence b))
     ∙ ap (λ (front : List MethodId). front ++ all_calls_in (in_sequence b)) (in_sequence-named a)
     ∙ ap (λ (back : List MethodId). methods_named a ++ back) (in_sequence-named b)
 
-choices : (a b c d : Code) → Alike a c → Alike b d → Alike (choice a b) (choice c d)
+choices : (a b c d : Code) → Alike a c → Alike b d → Alike (fork a b) (fork c d)
 choices a b c d h k =
     record {
       same =
@@ -73,7 +75,7 @@ inside a c h =
     ap (λ (ms : List MethodId). ms ++ []) (in_sequence-named a ∙ h.same ∙ sym (in_sequence-named c))
 
 call-named : (place : Place) (m : MethodId) (n : ℕ) (b : Bool) →
-    methods_named (op_at place (cond b (Call m n) (Unread m n))) ≡ m ∷ []
+    methods_named (one place (cond b (Call m n) (Unread m n))) ≡ m ∷ []
 call-named place m n true = refl
 call-named place m n false = refl
 
@@ -87,15 +89,18 @@ any =
       of_kind = λ c h. refl;
     }
 
-abbrev likeness : Fact
+abbrev likeness : CoreFact
 likeness =
     record {
       tests = any;
-      Holds = λ c d. Alike c d;
-      nothing = record { same = refl };
-      followed = both;
-      chosen = choices;
-      looped = λ a c h. record { same = inside a c h };
+      code =
+          record {
+            Holds = λ c d. Alike c d;
+            nothing = record { same = refl };
+            followed = both;
+            chosen = choices;
+            looped = λ a c h. record { same = inside a c h };
+          };
       locked = λ k p a c there h. record { same = inside a c h };
       single = λ p o h k. record { same = refl };
       called = λ p m n a b h k. record { same = call-named p m n a ∙ sym (call-named p m n b) };
@@ -125,13 +130,16 @@ grounded context =
           };
       here = refl;
       class = refl;
+      given = refl;
       kinds = any-kind context.kinds;
     }
 
 method-alike : (statuses : List (Option Reason)) (folder : Folder) (s : Source) → PlacedSource (λ (p : Place). true) s →
     Alike (method_code (record folder { statuses = statuses }) s) (method_code folder s)
 method-alike statuses folder s placed =
-    in-holds likeness statuses (entered folder s) (grounded (entered folder s)) s placed s.body placed.body
+    let made = in-holds (fact_of likeness) statuses (entered folder s) (grounded (entered folder s)) s placed s.body
+    placed.body in
+    made.fact
 
 numbered-named : (t : Tree) (n : ℕ) → all_calls_in (numbered n t) ≡ all_calls_in t
 numbered-named t n =

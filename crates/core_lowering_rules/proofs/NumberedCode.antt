@@ -1,8 +1,8 @@
 -- What numbering keeps, and that it counts.
-use Rattle.std.proofs.Common.{◌≡◌, ℕ, ◌+◌, ◌-◌, Bool, true, false, cond, ◌&&◌, ◌||◌, [], ◌∷◌, ◌++◌, Option}
-use Rattle.std.proofs.Common.{Some, None, length, refl, sym, ap, ◌∙◌, nat_eq, nat_le}
+use Rattle.std.proofs.Common.{◌≡◌, ℕ, ◌+◌, ◌-◌, Bool, true, false, cond, ◌&&◌, ◌||◌, [], ◌++◌, Option}
+use Rattle.std.proofs.Common.{Some, None, List, length, refl, sym, ap, subst, ◌∙◌, nat_eq, nat_le}
 use Rattle.std.specs.List.{list_all}
-use Rattle.std.proofs.Math.Bool.{and_assoc, and-false}
+use Rattle.std.proofs.Math.Bool.{and-false}
 use Rattle.std.proofs.lemmas.List.{length-map}
 use Rattle.std.proofs.lemmas.Bool.{eq-eqb, and_from}
 use Rattle.std.proofs.lemmas.List.Folds.{list_all-map}
@@ -14,12 +14,20 @@ use Rattle.core_code.specs.Core.{Core}
 use Rattle.core_code.specs.Facts.{sites_of, counts_from, height_after, same_height}
 use Rattle.core_code.specs.CallFacts.{is_right_call}
 use Rattle.core_code.proofs.Sites.{sites_go_on, sites_of-then}
-use Rattle.core_lowering_rules.specs.Context.{Context, Code, op}
+use Rattle.core_lowering_drafts.specs.Drafts.{in_order}
+use Rattle.core_lowering_drafts.specs.Only.{Code as Trees, one, Last, code_in, all_ends}
+use Rattle.core_lowering_drafts.specs.Plain.{plain_code}
+use Rattle.core_lowering_drafts.proofs.Sequences.{onto-append}
+use Rattle.core_lowering_drafts.proofs.Steady.{is_steady, steady-met}
+use Rattle.racer_base.specs.declared.ids.Kind.TheVariants as types
+use Rattle.core_lowering_rules.specs.Context.{Context, Guard, Result, Itself, Nothing, Value, Code, op, made}
 use Rattle.core_lowering_rules.specs.Statements.{returned, returned_nothing}
 use Rattle.core_lowering_rules.specs.Methods.{ended}
 use Rattle.core_lowering_rules.specs.Sites.{numbered}
 use Rattle.core_lowering_rules.proofs.NumberedTrees.{SiteFact, same-numbered, ops-numbered}
 use Rattle.core_lowering_rules.proofs.Runs.{part_right, then-agree}
+use Rattle.core_lowering_rules.proofs.DraftFacts.{can_end-append}
+use Rattle.core_lowering_rules.proofs.LoweredStatements.{sent_by}
 
 -- ---- heights and calls
 
@@ -90,26 +98,43 @@ same_ends =
       of_sync = λ lock a c p. p;
     }
 
-can_end-append : (a b : Code) → can_end (in_sequence (a ++ b)) ≡ (can_end (in_sequence a) && can_end (in_sequence b))
-can_end-append [] b = refl
-can_end-append (part ∷ a) b =
-    ap (λ x. can_end part && x) (can_end-append a b)
-    ∙ sym (and_assoc (can_end part) (can_end (in_sequence a)) (can_end (in_sequence b)))
+-- what a return gives is a value
+nothing-steady : (context : Context) (r : Result) → is_steady (in_order (returned_nothing context r)) ≡ true
+nothing-steady context Itself = refl
+nothing-steady context Nothing = refl
+nothing-steady context (Value types.Plain) = refl
+nothing-steady context (Value (types.Declared c)) = refl
+nothing-steady context (Value types.Other) = refl
 
-returned-ends : (context : Context) → can_end (in_sequence (returned context None)) ≡ false
-returned-ends context =
-    can_end-append (returned_nothing context context.result) (op context Ret)
-    ∙ and-false (can_end (in_sequence (returned_nothing context context.result)))
+-- a value and a return, as core code
+return-code : (context : Context) (a : Code) → is_steady (in_order a) ≡ true →
+    made (a ++ op context Ret) ≡ plain_code (in_order a) ++ one context.place Ret
+return-code context a steady =
+    ap code_in
+    (onto-append a (op context Ret) all_ends Last
+    ∙ steady-met (in_order a) steady all_ends (one context.place Ret))
 
-ends-by : (context : Context) (body : Code) (b : Bool) → can_end (in_sequence body) ≡ b →
-    can_end (in_sequence (cond b (body ++ returned context None) body)) ≡ false
-ends-by context body true e =
-    can_end-append body (returned context None)
-    ∙ ap (λ x. can_end (in_sequence body) && x) (returned-ends context) ∙ and-false (can_end (in_sequence body))
-ends-by context body false e = e
+-- outside of each `finally` a return ends code
+returned-ends : (context : Context) → context.guards ≡ [] →
+    can_end (in_sequence (made (returned context None))) ≡ false
+returned-ends context e =
+    subst (λ (all : List Guard).
+    can_end (in_sequence (made (returned_nothing context context.result ++ sent_by context all))) ≡ false) (sym e)
+    (ap (λ (c : Trees). can_end (in_sequence c)) (return-code context (returned_nothing context context.result)
+    (nothing-steady context context.result))
+    ∙ can_end-append (plain_code (in_order (returned_nothing context context.result))) (one context.place Ret)
+    ∙ and-false (can_end (in_sequence (plain_code (in_order (returned_nothing context context.result))))))
+
+ends-by : (context : Context) → context.guards ≡ [] → (body : Trees) (b : Bool) → can_end (in_sequence body) ≡ b →
+    can_end (in_sequence (cond b (body ++ made (returned context None)) body)) ≡ false
+ends-by context none body true e =
+    can_end-append body (made (returned context None))
+    ∙ ap (λ x. can_end (in_sequence body) && x) (returned-ends context none) ∙ and-false (can_end (in_sequence body))
+ends-by context none body false e = e
 
 -- code with a return at its end does not end otherwise
-pub ended-ends : (context : Context) (body : Code) → can_end (numbered 0 (in_sequence (ended context body))) ≡ false
-ended-ends context body =
+pub ended-ends : (context : Context) → context.guards ≡ [] → (body : Trees) →
+    can_end (numbered 0 (in_sequence (ended context body))) ≡ false
+ended-ends context none body =
     same-numbered same_ends (in_sequence (ended context body)) 0
-    ∙ ends-by context body (can_end (in_sequence body)) refl
+    ∙ ends-by context none body (can_end (in_sequence body)) refl

@@ -48,13 +48,14 @@ use Rattle.core_lowering_rules.specs.Programs.{method_cores}
 use Rattle.core_lowering_rules.specs.Programs.{program_of}
 use Rattle.core_lowering_rules.specs.Conditions.{member_places}
 use Rattle.core_lowering_rules.specs.Conditions.{are_in_files}
-use Rattle.core_lowering_rules.proofs.FoundElements.{Each, each-append, each-flat_map, first-passes}
+use Rattle.core_lowering_rules.proofs.FoundElements.{Each, each-append, each-flat_map, first-passes, unless}
 use Rattle.core_lowering_rules.proofs.KindedMethods.{kinded}
-use Rattle.core_lowering_rules.proofs.KindedPrograms.{each-at, unless, known}
+use Rattle.core_lowering_rules.proofs.KindedPrograms.{each-at, known}
 use Rattle.core_lowering_rules.proofs.KindedPrograms.{sources-same, IsRightSource}
 use Rattle.core_lowering_rules.proofs.KindedPrograms.{sources-right, folder-stands}
 use Rattle.core_lowering_rules.proofs.InRangeCode.{numbers, fineness, found-below, code-in_range}
 use Rattle.core_lowering_rules.proofs.LoweredFacts.{Grounded}
+use Rattle.core_lowering_rules.proofs.DraftFacts.{fact_of}
 use Rattle.core_lowering_rules.proofs.KeptPlaces.{each-all, each-from, bounded-by_class, each-places, method-places}
 use Rattle.core_lowering_rules.proofs.KeptPlaces.{members-all, skipped-all, PlacedClass, trees-placed, PlacedSource}
 use Rattle.core_lowering_rules.proofs.KeptPlaces.{sources-placed}
@@ -259,6 +260,7 @@ module _ (files : List (List ℕ)) (units : List unit_type.Unit) (is_recursive :
             };
         here = right.place;
         class = right.class;
+        given = right.result;
         kinds = own-kinds s.info.is_static s.info.class right.class;
       }
 
@@ -269,7 +271,8 @@ module _ (files : List (List ℕ)) (units : List unit_type.Unit) (is_recursive :
       let m = method_core folder s status in
       let checked = kinded core folder (folder-stands files units is_recursive) s.info s.members status s.body right in
       code-in_range core m
-      (in-holds (fineness core) [] (entered folder s) (grounded s sound) s put s.body put.body)
+      (let made = in-holds (fact_of (fineness core)) [] (entered folder s) (grounded s sound) s put s.body put.body in
+      made.fact)
       (and_parts (begins_with (taken_by m) m.variables) _ checked).1
 
   method-right : (s : Source) (status : Option Reason) → IsRightSource (names_of units) s → IsSound s →
@@ -286,7 +289,7 @@ module _ (files : List (List ℕ)) (units : List unit_type.Unit) (is_recursive :
       (is_class core m.class && is_place core m.place && list_all (is_kind core) m.parameters && is_kind core m.result)
       (list_all (is_kind core) m.variables) c
       (each-all (is_kind core) m.variables
-      (kinds-hold (fineness core) [] (entered folder s) (grounded s sound) s sound.parameters s.body)) in
+      (kinds-hold (fact_of (fineness core)) [] (entered folder s) (grounded s sound) s sound.parameters s.body)) in
       and_from
       (is_class core m.class && is_place core m.place && list_all (is_kind core) m.parameters && is_kind core m.result
       && list_all (is_kind core) m.variables) (is_code core (length m.variables) m.code) d

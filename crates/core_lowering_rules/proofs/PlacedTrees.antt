@@ -6,14 +6,15 @@ use Rattle.java_tree.specs.declared.words.Ident.{Ident}
 use Rattle.racer_base.specs.declared.ids.Place.{Place}
 use Rattle.core_lowering_rules.specs.Trees.{Expr, Text, This, ClassOf, Read, Unary, Cast, Binary, Logical, Conditional}
 use Rattle.core_lowering_rules.specs.Trees.{Assign, Combine, Count, Call, CallOn, New, NewArray, NewItems, Paren}
-use Rattle.core_lowering_rules.specs.Trees.{Access}
-use Rattle.core_lowering_rules.specs.Trees.{Named, Selected, Element, NoAccess, Exprs, no_expr, expr_then, Init}
-use Rattle.core_lowering_rules.specs.Trees.{Value, Items}
-use Rattle.core_lowering_rules.specs.Trees.{Inits, no_init, init_then, Variable, Start, Declares, Runs, Stmt, Run}
-use Rattle.core_lowering_rules.specs.Trees.{Local, If}
-use Rattle.core_lowering_rules.specs.Trees.{IfElse, While, For, ForEach, Sync, Return, Block, Empty, Stmts, no_stmt}
-use Rattle.core_lowering_rules.specs.Trees.{stmt_then, Locked, Try, Apart, Catches, no_catch, catch_then, plain_call}
-use Rattle.core_lowering_rules.specs.Trees.{run_call, do_unlock, lock_of, lock_before, joined, put_before}
+use Rattle.core_lowering_rules.specs.Trees.{Access, Named, Selected, Element, NoAccess, Exprs, no_expr, expr_then, Init}
+use Rattle.core_lowering_rules.specs.Trees.{Value, Items, Inits, no_init, init_then, Variable, Start, Declares, Runs}
+use Rattle.core_lowering_rules.specs.Trees.{Condition, Resource, Stmt, Run, Local, If, IfElse, While, Do, For, ForEach}
+use Rattle.core_lowering_rules.specs.Trees.{Sync, Return, Block, Empty, Throw, Break, Continue, Labelled, Assert}
+use Rattle.core_lowering_rules.specs.Trees.{Switch}
+use Rattle.core_lowering_rules.specs.Trees.{Locked, Try, Finally, Stmts, no_stmt, stmt_then, Groups, no_group}
+use Rattle.core_lowering_rules.specs.Trees.{group_then}
+use Rattle.core_lowering_rules.specs.Trees.{Catches, plain_call, run_call, do_unlock, lock_of, lock_before, joined}
+use Rattle.core_lowering_rules.specs.Trees.{put_before}
 use Rattle.core_lowering_rules.specs.Trees as tree
 
 some-same : {A : Type 0} {x y : A} → Some x ≡ Some y → x ≡ y
@@ -83,32 +84,48 @@ abbrev pub PlacedStart : (Place → Bool) → Start → Type 0
 PlacedStart test (Declares t vs) = PlacedVariables test vs
 PlacedStart test (Runs es) = PlacedExprs test es
 
+abbrev pub PlacedCondition : (Place → Bool) → Option Condition → Type 0
+PlacedCondition test None = Unit {0}
+PlacedCondition test (Some c) = PlacedExpr test c.on
+
+abbrev pub PlacedResources : (Place → Bool) → List Resource → Type 0
+PlacedResources test [] = Unit {0}
+PlacedResources test (r ∷ rs) = PlacedExpr test r.value × PlacedResources test rs
+
+-- of what is lowered: no catch clauses, no labels of groups, and nothing behind the `:` of an `assert`
 abbrev mutual
   pub PlacedStmt : (Place → Bool) → Stmt → Type 0
   PlacedStmt test (Run e) = PlacedExpr test e
   PlacedStmt test (Local t vs) = PlacedVariables test vs
   PlacedStmt test (If e s) = PlacedExpr test e × PlacedStmt test s
   PlacedStmt test (IfElse e s t) = PlacedExpr test e × PlacedStmt test s × PlacedStmt test t
-  PlacedStmt test (While e s) = PlacedExpr test e × PlacedStmt test s
-  PlacedStmt test (For i e updates s) =
-      PlacedStart test i × PlacedOption test e × PlacedExprs test updates × PlacedStmt test s
+  PlacedStmt test (While c s) = PlacedExpr test c.on × PlacedStmt test s
+  PlacedStmt test (Do s c) = PlacedExpr test c.on × PlacedStmt test s
+  PlacedStmt test (For i c updates s) =
+      PlacedStart test i × PlacedCondition test c × PlacedExprs test updates × PlacedStmt test s
   PlacedStmt test (ForEach t x e s) = PlacedExpr test e × PlacedStmt test s
   PlacedStmt test (Sync place e ss) = Passes test place × PlacedExpr test e × PlacedStmts test ss
   PlacedStmt test (Return e) = PlacedOption test e
   PlacedStmt test (Block ss) = PlacedStmts test ss
   PlacedStmt test Empty = Unit {0}
-  PlacedStmt test (Locked place e ss catches) =
-      Passes test place × PlacedExpr test e × PlacedStmts test ss × PlacedCatches test catches
-  PlacedStmt test (Try ss catches finally) = PlacedStmts test ss × PlacedCatches test catches × PlacedStmts test finally
-  PlacedStmt test Apart = Unit {0}
+  PlacedStmt test (Throw place e) = Passes test place × PlacedExpr test e
+  PlacedStmt test (Break x) = Unit {0}
+  PlacedStmt test (Continue x) = Unit {0}
+  PlacedStmt test (Labelled x s) = PlacedStmt test s
+  PlacedStmt test (Assert e told) = PlacedExpr test e
+  PlacedStmt test (Switch e gs) = PlacedExpr test e × PlacedGroups test gs
+  PlacedStmt test (Locked place e ss catches) = Passes test place × PlacedExpr test e × PlacedStmts test ss
+  PlacedStmt test (Try rs ss catches) = PlacedResources test rs × PlacedStmts test ss
+  PlacedStmt test (Finally rs ss catches finally) =
+      PlacedResources test rs × PlacedStmts test ss × PlacedStmts test finally
 
   pub PlacedStmts : (Place → Bool) → Stmts → Type 0
   PlacedStmts test no_stmt = Unit {0}
   PlacedStmts test (stmt_then s ss) = PlacedStmt test s × PlacedStmts test ss
 
-  pub PlacedCatches : (Place → Bool) → Catches → Type 0
-  PlacedCatches test no_catch = Unit {0}
-  PlacedCatches test (catch_then x ss catches) = PlacedStmts test ss × PlacedCatches test catches
+  pub PlacedGroups : (Place → Bool) → Groups → Type 0
+  PlacedGroups test no_group = Unit {0}
+  PlacedGroups test (group_then labels ss gs) = PlacedStmts test ss × PlacedGroups test gs
 
 -- ---- two statements that are one
 
@@ -155,8 +172,15 @@ module _ (test : Place → Bool) where
   run-placed (Block ss) call p is = absurd cc
   run-placed Empty call p is = absurd cc
   run-placed (Locked place e ss catches) call p is = absurd cc
-  run-placed (Try ss catches finally) call p is = absurd cc
-  run-placed Apart call p is = absurd cc
+  run-placed (Do t c) call p is = absurd cc
+  run-placed (Throw place e) call p is = absurd cc
+  run-placed (Break x) call p is = absurd cc
+  run-placed (Continue x) call p is = absurd cc
+  run-placed (Labelled x t) call p is = absurd cc
+  run-placed (Assert e told) call p is = absurd cc
+  run-placed (Switch e gs) call p is = absurd cc
+  run-placed (Try rs ss catches) call p is = absurd cc
+  run-placed (Finally rs ss catches finally) call p is = absurd cc
 
   abbrev PlacedLock : Place × Expr → Type 0
   PlacedLock lock = Passes test lock.0 × PlacedExpr test lock.1
@@ -170,16 +194,17 @@ module _ (test : Place → Bool) where
       subst PlacedLock (chosen-same test_of (call.1.place, call.0) lock is) (placed.1, placed.0)
 
   joined-placed : (s : Stmt) (body : Stmts) (catches : Catches) (finally rest : Stmts) (o : Option (Place × Expr)) →
-      lock_before s finally ≡ o → PlacedStmt test s → PlacedStmts test (stmt_then (Try body catches finally) rest) →
+      lock_before s finally ≡ o → PlacedStmt test s →
+      PlacedStmts test (stmt_then (Finally [] body catches finally) rest) →
       PlacedStmts test (joined o s body catches finally rest)
   joined-placed s body catches finally rest None is p q = (p, q)
   joined-placed s body catches finally rest (Some lock) is p q =
-      let l = lock-placed s finally lock (run_call s) p refl is in ((l.0, l.1, q.0.0, q.0.1), q.1)
+      let l = lock-placed s finally lock (run_call s) p refl is in ((l.0, l.1, q.0.1), q.1)
 
   pub put-placed : (s : Stmt) (ss : Stmts) → PlacedStmt test s → PlacedStmts test ss →
       PlacedStmts test (put_before s ss)
   put-placed s no_stmt p q = (p, q)
-  put-placed s (stmt_then (Try body catches finally) rest) p q =
+  put-placed s (stmt_then (Finally [] body catches finally) rest) p q =
       joined-placed s body catches finally rest (lock_before s finally) refl p q
   put-placed s (stmt_then (Run e) ss) p q = (p, q)
   put-placed s (stmt_then (Local t vs) ss) p q = (p, q)
@@ -193,4 +218,12 @@ module _ (test : Place → Bool) where
   put-placed s (stmt_then (Block us) ss) p q = (p, q)
   put-placed s (stmt_then Empty ss) p q = (p, q)
   put-placed s (stmt_then (Locked place e us catches) ss) p q = (p, q)
-  put-placed s (stmt_then Apart ss) p q = (p, q)
+  put-placed s (stmt_then (Do u c) ss) p q = (p, q)
+  put-placed s (stmt_then (Throw place e) ss) p q = (p, q)
+  put-placed s (stmt_then (Break x) ss) p q = (p, q)
+  put-placed s (stmt_then (Continue x) ss) p q = (p, q)
+  put-placed s (stmt_then (Labelled x u) ss) p q = (p, q)
+  put-placed s (stmt_then (Assert e told) ss) p q = (p, q)
+  put-placed s (stmt_then (Switch e gs) ss) p q = (p, q)
+  put-placed s (stmt_then (Try rs us catches) ss) p q = (p, q)
+  put-placed s (stmt_then (Finally (r ∷ rs) us catches finally) ss) p q = (p, q)

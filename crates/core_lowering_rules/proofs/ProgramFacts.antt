@@ -1,6 +1,6 @@
 -- What every program of units keeps.
 use Rattle.std.proofs.Common.{◌≡◌, ℕ, zero, suc, Bool, true, false, cond, not, ◌&&◌, ◌||◌, List, [], ◌∷◌, Option, Some}
-use Rattle.std.proofs.Common.{None, map, refl, ap, ◌∙◌, slice_get, is_some, is_none, length, nat_lt, nat_le, arith}
+use Rattle.std.proofs.Common.{None, map, refl, sym, ap, ◌∙◌, slice_get, is_some, is_none, length, nat_lt, nat_le, arith}
 use Rattle.std.proofs.lemmas.Bool.Decides.{nat_tests}
 use Rattle.std.specs.List.{list_all}
 use Rattle.std.specs.Option.{option_or}
@@ -13,15 +13,21 @@ use Rattle.java_resolver.specs.declared.infos.ClassInfo.{ClassInfo}
 use Rattle.java_resolver.specs.declared.infos.MethodInfo.{MethodInfo}
 use Rattle.java_resolver.specs.Declarations.{names_of}
 use Rattle.core_code.specs.declared.code.Reason.{Reason}
-use Rattle.core_code.specs.declared.code.Reason.TheVariants.{Overload, Outside, Parameters, Locals, Recursive}
+use Rattle.core_code.specs.declared.code.Reason.TheVariants.{Overload, Outside, Parameters, Locals, Operations}
+use Rattle.core_code.specs.declared.code.Reason.TheVariants.{Recursive}
 use Rattle.core_code.specs.Tree.{can_end, in_sequence}
 use Rattle.core_code.specs.Core.{Core, Method}
 use Rattle.core_code.specs.Facts.{is_stack_enough, are_stacks_enough, is_in_order, are_sites_in_order, may_be_entry}
 use Rattle.core_code.specs.Facts.{are_entries_analysed, has_few_parameters, are_parameters_few}
 use Rattle.core_code.specs.CallFacts.{has_right_calls, are_calls_right, ends_by_return, do_end_by_return}
-use Rattle.core_lowering_rules.specs.Context.{Folder}
+use Rattle.java_tree.specs.declared.methods.MethodTree.{MethodTree}
+use Rattle.java_tree.specs.declared.methods.ParameterTree.{ParameterTree}
+use Rattle.java_tree.specs.View.{ty_of}
+use Rattle.core_lowering_rules.specs.Context.{Context, Folder, made, type_kind}
+use Rattle.core_lowering_rules.specs.Scopes.{declared}
+use Rattle.core_lowering_rules.specs.Sites.{numbered}
 use Rattle.core_lowering_rules.specs.Methods.{Body, Default, Spelled, Unspelled, Source, entered, fields_begun}
-use Rattle.core_lowering_rules.specs.Methods.{parameters_declared}
+use Rattle.core_lowering_rules.specs.Methods.{parameters_declared, is_large, is_past, is_past_limit, ended}
 use Rattle.core_lowering_rules.specs.Methods.{spelled_code, method_code}
 use Rattle.core_lowering_rules.specs.Programs.{sources_of, status_of, declared_in, statuses_from, folder_of, class_core}
 use Rattle.core_lowering_rules.specs.Programs.{is_overloaded}
@@ -29,7 +35,8 @@ use Rattle.core_lowering_rules.specs.Programs.{local_count, where_so, is_outside
 use Rattle.core_lowering_rules.specs.Programs.{is_checked, is_entry, method_core, method_cores, program_of}
 use Rattle.core_lowering_rules.proofs.Runs.{whole_high, whole_calls}
 use Rattle.core_lowering_rules.proofs.FoundElements.{Each}
-use Rattle.core_lowering_rules.proofs.KindedMethods.{method-keeps}
+use Rattle.core_lowering_rules.proofs.KindedMethods.{method-keeps, guards-parameters}
+use Rattle.core_lowering_rules.proofs.StatusesUnseen.{with_statuses}
 use Rattle.core_lowering_rules.proofs.KindedPrograms.{IsRightSource, folder-stands, sources-right}
 use Rattle.core_lowering_rules.proofs.NumberedCode.{height-numbered, calls-numbered, sites-numbered, ended-ends}
 
@@ -53,6 +60,17 @@ outside-some : (b : Bool) (rest : Option Reason) →
     is_some (option_or (cond b (Some Overload) None) (option_or (Some Outside) rest)) ≡ true
 outside-some true rest = refl
 outside-some false rest = refl
+
+some-behind : (a b : Option Reason) → is_some b ≡ true → is_some (option_or a b) ≡ true
+some-behind None b h = h
+some-behind (Some r) b h = refl
+
+-- parameters do not depend on which methods are analysed
+parameters-blind : (statuses : List (Option Reason)) (c : Context) (ps : List ParameterTree) →
+    parameters_declared (with_statuses statuses c) ps ≡ with_statuses statuses (parameters_declared c ps)
+parameters-blind statuses c [] = refl
+parameters-blind statuses c (p ∷ ps) =
+    parameters-blind statuses (declared c (type_kind c (ty_of p.kind)) p.name) ps
 
 -- ---- parameters
 
@@ -139,25 +157,61 @@ module _ (files : List (List ℕ)) (units : List unit_type.Unit) (is_recursive :
   abbrev status_by : ℕ → Source → Option Reason
   status_by n s = status_of (declared_in units) (is_recursive (record { 0 = n })) s
 
+  -- a method past the limit is not analysed
+  large-some : (n : ℕ) (s : Source) (t : MethodTree) → s.body ≡ Spelled t →
+      is_large (parameters_declared (entered folder s) t.parameters) t ≡ true → is_some (status_by n s) ≡ true
+  large-some n s t is e =
+      let d = declared_in units in
+      let past : is_past_limit d s ≡ true =
+      ap (is_past (entered d s)) is
+      ∙ sym (ap (λ (c : Context). is_large c t) (parameters-blind folder.statuses (entered d s) t.parameters)) ∙ e in
+      let last = option_or (where_so (is_past_limit d s) Operations)
+      (where_so (is_recursive (record { 0 = n })) Recursive) in
+      let locals = option_or (where_so (nat_lt MAX_LOCALS (local_count d s)) Locals) last in
+      let many = option_or (where_so (nat_lt MAX_PARAMETERS (length s.info.parameters)) Parameters) locals in
+      let outside = option_or (where_so (is_outside d s) Outside) many in
+      some-behind (where_so (is_overloaded d.methods s.info) Overload) outside
+      (some-behind (where_so (is_outside d s) Outside) many
+      (some-behind (where_so (nat_lt MAX_PARAMETERS (length s.info.parameters)) Parameters) locals
+      (some-behind (where_so (nat_lt MAX_LOCALS (local_count d s)) Locals) last
+      (ap (λ b. is_some (option_or (where_so b Operations) (where_so (is_recursive (record { 0 = n })) Recursive)))
+      past))))
+
+  spelled-ends : (n : ℕ) (info : MethodInfo) (members : List Member) (t : MethodTree) (b : Bool) →
+      let s : Source = record { info = info; members = members; body = Spelled t } in
+      let inside = parameters_declared (entered folder s) t.parameters in
+      is_large inside t ≡ b →
+      (is_some (status_by n s)
+      || not (can_end (numbered 0 (in_sequence (cond b [] (ended inside (spelled_code inside members t))))))) ≡ true
+  spelled-ends n info members t true e =
+      let s : Source = record { info = info; members = members; body = Spelled t } in
+      ap (λ b. b || not (can_end (numbered 0 (in_sequence [])))) (large-some n s t refl e)
+  spelled-ends n info members t false e =
+      let s : Source = record { info = info; members = members; body = Spelled t } in
+      let inside = parameters_declared (entered folder s) t.parameters in
+      or_right (is_some (status_by n s))
+      (not (can_end (numbered 0 (in_sequence (ended inside (spelled_code inside members t))))))
+      (ap not (ended-ends inside (guards-parameters (entered folder s) t.parameters) (spelled_code inside members t)))
+
   ends : (n : ℕ) (info : MethodInfo) (members : List Member) (body : Body) →
       let s : Source = record { info = info; members = members; body = body } in
       ends_by_return (method_core folder s (status_by n s)) ≡ true
   ends n info members Default =
       let s : Source = record { info = info; members = members; body = Default } in
       or_right (is_some (status_by n s)) (not (can_end (method_core folder s (status_by n s)).code))
-      (ap not (ended-ends (entered folder s) (fields_begun (entered folder s) members)))
+      (ap not (ended-ends (entered folder s) refl (made (fields_begun (entered folder s) members))))
   ends n info members (Spelled t) =
       let s : Source = record { info = info; members = members; body = Spelled t } in
       let inside = parameters_declared (entered folder s) t.parameters in
-      or_right (is_some (status_by n s)) (not (can_end (method_core folder s (status_by n s)).code))
-      (ap not (ended-ends (entered folder s) (spelled_code inside members t)))
+      spelled-ends n info members t (is_large inside t) refl
   ends n info members Unspelled =
       let s : Source = record { info = info; members = members; body = Unspelled } in
       ap (λ b. b || not (can_end (method_core folder s (status_by n s)).code))
       (outside-some (is_overloaded (declared_in units).methods info)
       (option_or (where_so (nat_lt MAX_PARAMETERS (length info.parameters)) Parameters)
       (option_or (where_so (nat_lt MAX_LOCALS (local_count (declared_in units) s)) Locals)
-      (where_so (is_recursive (record { 0 = n })) Recursive))))
+      (option_or (where_so (is_past_limit (declared_in units) s) Operations)
+      (where_so (is_recursive (record { 0 = n })) Recursive)))))
 
   all-end : (sources : List Source) (n : ℕ) →
       list_all ends_by_return
@@ -175,7 +229,8 @@ module _ (files : List (List ℕ)) (units : List unit_type.Unit) (is_recursive :
       few-or_reason (is_overloaded (declared_in units).methods s.info) (is_outside (declared_in units) s)
       (length s.info.parameters)
       (option_or (where_so (nat_lt MAX_LOCALS (local_count (declared_in units) s)) Locals)
-      (where_so (is_recursive (record { 0 = n })) Recursive))
+      (option_or (where_so (is_past_limit (declared_in units) s) Operations)
+      (where_so (is_recursive (record { 0 = n })) Recursive)))
 
   all-few : (sources : List Source) (n : ℕ) →
       list_all has_few_parameters

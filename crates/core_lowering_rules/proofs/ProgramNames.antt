@@ -22,7 +22,8 @@ use Rattle.java_resolver.specs.Meanings.{is_called}
 use Rattle.java_resolver.specs.Refusals.{Repeat, repeated_after, repeated, same_class, same_field, duplicate_class}
 use Rattle.java_resolver.specs.Refusals.{duplicate_field, too_many, refusal}
 use Rattle.core_code.specs.declared.code.Reason.{Reason}
-use Rattle.core_code.specs.declared.code.Reason.TheVariants.{Overload, Outside, Parameters, Locals, Recursive}
+use Rattle.core_code.specs.declared.code.Reason.TheVariants.{Overload, Outside, Parameters, Locals, Operations}
+use Rattle.core_code.specs.declared.code.Reason.TheVariants.{Recursive}
 use Rattle.core_code.specs.declared.parts.ClassCore.{ClassCore}
 use Rattle.core_code.specs.declared.parts.FieldCore.{FieldCore}
 use Rattle.core_code.specs.Core.{Method}
@@ -31,7 +32,7 @@ use Rattle.core_code.specs.Names.{do_classes_differ}
 use Rattle.core_code.specs.Names.{do_fields_differ, same_signature, do_methods_differ}
 use Rattle.core_code.specs.Names as names
 use Rattle.core_lowering_rules.specs.Context.{Folder}
-use Rattle.core_lowering_rules.specs.Methods.{Source}
+use Rattle.core_lowering_rules.specs.Methods.{Source, is_past_limit}
 use Rattle.core_lowering_rules.specs.Programs.{sources_of, is_outside, is_overloaded, local_count, where_so, status_of}
 use Rattle.core_lowering_rules.specs.Programs.{declared_in, statuses_from, folder_of, class_core, field_core}
 use Rattle.core_lowering_rules.specs.Programs.{method_core}
@@ -208,7 +209,8 @@ no-overload folder b s e =
     let parts = or-none (where_so (is_overloaded folder.methods s.info) Overload)
     (option_or (where_so (is_outside folder s) Outside)
     (option_or (where_so (nat_lt MAX_PARAMETERS (length s.info.parameters)) Parameters)
-    (option_or (where_so (nat_lt MAX_LOCALS (local_count folder s)) Locals) (where_so b Recursive)))) e in
+    (option_or (where_so (nat_lt MAX_LOCALS (local_count folder s)) Locals)
+    (option_or (where_so (is_past_limit folder s) Operations) (where_so b Recursive))))) e in
     where_so-none (is_overloaded folder.methods s.info) Overload parts.0
 
 abbrev is_read : Method → Bool

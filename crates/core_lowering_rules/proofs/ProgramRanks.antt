@@ -14,7 +14,8 @@ use Rattle.core_code.specs.Chains.{Calls, IsChain, IsOnCycle, flag_of}
 use Rattle.core_code.specs.declared.code.Op.{Op as CoreOp}
 use Rattle.core_code.specs.declared.code.Op.TheVariants.{Call}
 use Rattle.core_code.specs.declared.code.Reason.{Reason}
-use Rattle.core_code.specs.declared.code.Reason.TheVariants.{Overload, Outside, Parameters, Locals, Recursive}
+use Rattle.core_code.specs.declared.code.Reason.TheVariants.{Overload, Outside, Parameters, Locals, Operations}
+use Rattle.core_code.specs.declared.code.Reason.TheVariants.{Recursive}
 use Rattle.racer_base.specs.declared.limits.TheConstants.{MAX_PARAMETERS, MAX_LOCALS}
 use Rattle.core_code.specs.Core.{Core, Method}
 use Rattle.core_code.specs.Calls.{called_by, calls_in, calls_of, method_at, is_analysed}
@@ -28,7 +29,7 @@ use Rattle.core_code.proofs.Members.{passes}
 use Rattle.core_code.proofs.RowCallees.{is_method, analysed_among, right_at, method_there, analysed_at}
 use Rattle.core_lowering_rules.specs.Context.{Folder}
 use Rattle.core_lowering_rules.specs.Conditions.{unit_places}
-use Rattle.core_lowering_rules.specs.Methods.{Source}
+use Rattle.core_lowering_rules.specs.Methods.{Source, is_past_limit}
 use Rattle.core_lowering_rules.specs.Programs.{sources_of, declared_in, statuses_from, status_of, where_so}
 use Rattle.core_lowering_rules.specs.Programs.{method_cores}
 use Rattle.core_lowering_rules.specs.Programs.{program_of, draft_of, folder_of, is_outside, is_overloaded, local_count}
@@ -112,16 +113,19 @@ not_so false h = refl
 
 not_recursive : (d : Folder) (b : Bool) (s : Source) → is_none (status_of d b s) ≡ true → b ≡ false
 not_recursive d b s h =
+    let large = where_so (is_past_limit d s) Operations in
+    let by_size = option_or large (where_so b Recursive) in
     let others = where_so (nat_lt MAX_LOCALS (local_count d s)) Locals in
-    let by_size = option_or others (where_so b Recursive) in
+    let by_locals = option_or others by_size in
     let many = where_so (nat_lt MAX_PARAMETERS (length s.info.parameters)) Parameters in
     let outside = where_so (is_outside d s) Outside in
     let overloaded = where_so (is_overloaded d.methods s.info) Overload in
     not_so b
-    (last_none others (where_so b Recursive)
-    (last_none many by_size
-    (last_none outside (option_or many by_size)
-    (last_none overloaded (option_or outside (option_or many by_size)) h))))
+    (last_none large (where_so b Recursive)
+    (last_none others by_size
+    (last_none many by_locals
+    (last_none outside (option_or many by_locals)
+    (last_none overloaded (option_or outside (option_or many by_locals)) h)))))
 
 unflagged : (folder d : Folder) (f : MethodId → Bool) (sources : List Source) (n k : ℕ) →
     analysed_at (slice_get (method_cores folder sources (statuses_from d f n sources)) k) ≡ true →

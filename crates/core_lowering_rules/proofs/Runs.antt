@@ -1,9 +1,9 @@
--- Code that makes one stack of kinds of another.
+-- Code that makes one stack of kinds of another: core code, and values of expressions, which are their own code.
 use Rattle.std.proofs.Common.{◌≡◌, ℕ, suc, ◌+◌, ◌-◌, Bool, true, false, cond, ◌&&◌, List, [], ◌∷◌, ◌++◌, Option}
 use Rattle.std.proofs.Common.{Some, None}
 use Rattle.std.proofs.Common.{length, drop, refl, sym, ap, ◌∙◌, subst, arith, nat_le, length-append, not, append_assoc}
 use Rattle.std.proofs.Math.Seq.{drop-append_seam}
-use Rattle.std.proofs.lemmas.Bool.{le-leb, eq-eqb, and_from}
+use Rattle.std.proofs.lemmas.Bool.{le-leb, eq-eqb, and_from, and_parts}
 use Rattle.std.proofs.lemmas.List.Folds.{list_all-append}
 use Rattle.std.proofs.lemmas.Option.{same_Some, none-some}
 use Rattle.std.specs.List.{list_all}
@@ -24,7 +24,11 @@ use Rattle.core_code.specs.KindCheck.{same_stack}
 use Rattle.core_code.proofs.KindLemmas.{same_heights}
 use Rattle.core_lowering_rules.specs.ValueKinds.{ValueKind, Of}
 use Rattle.core_lowering_rules.specs.ValueKinds as value
-use Rattle.core_lowering_rules.specs.Context.{Context, Code, op_at, op, choice, lock_at, repeated, held, converted}
+use Rattle.core_lowering_drafts.specs.Drafts.{Normal, is_same, op_end, in_order}
+use Rattle.core_lowering_drafts.specs.Only.{Code as Trees, one, fork, loop_of}
+use Rattle.core_lowering_drafts.specs.Plain.{plain_code}
+use Rattle.core_lowering_drafts.proofs.Steady.{is_steady, steady-append, plain-append}
+use Rattle.core_lowering_rules.specs.Context.{Context, Code, op_at, op, choice, lock_at, converted}
 use Rattle.core_lowering_rules.proofs.Suits.{Suits, class_equal}
 
 -- what goes on from a value that is there
@@ -83,16 +87,16 @@ abbrev high_then : Option ℕ → (ℕ → Option ℕ) → Option ℕ
 high_then o f = elim o as (λ (_ : Option ℕ). Option ℕ) [ None ↦ None | Some h ↦ f h ]
 
 -- the heights after parts one after another
-abbrev pub heights : Code → ℕ → Option ℕ
+abbrev pub heights : Trees → ℕ → Option ℕ
 heights [] h = Some h
 heights (part ∷ parts) h = high_then (height_after part h) (λ k. heights parts k)
 
-height-sequence : (parts : Code) (h : ℕ) → height_after (in_sequence parts) h ≡ heights parts h
+height-sequence : (parts : Trees) (h : ℕ) → height_after (in_sequence parts) h ≡ heights parts h
 height-sequence [] h = refl
 height-sequence (part ∷ parts) h =
     then-agree (height_after part h) (height_after (in_sequence parts)) (heights parts) (height-sequence parts)
 
-heights-append : (a b : Code) (h : ℕ) → heights (a ++ b) h ≡ high_then (heights a h) (heights b)
+heights-append : (a b : Trees) (h : ℕ) → heights (a ++ b) h ≡ high_then (heights a h) (heights b)
 heights-append [] b h = refl
 heights-append (part ∷ a) b h =
     then-agree (height_after part h) (heights (a ++ b)) (λ k. high_then (heights a k) (heights b))
@@ -106,29 +110,31 @@ op_right core o = is_right_call core o.op
 abbrev pub part_right : Core → Tree → Bool
 part_right core t = list_all (op_right core) (steps_of t)
 
-abbrev pub calls_right : Core → Code → Bool
+abbrev pub calls_right : Core → Trees → Bool
 calls_right core code = list_all (part_right core) code
 
-right-sequence : (core : Core) (parts : Code) → part_right core (in_sequence parts) ≡ calls_right core parts
+right-sequence : (core : Core) (parts : Trees) → part_right core (in_sequence parts) ≡ calls_right core parts
 right-sequence core [] = refl
 right-sequence core (part ∷ parts) =
     list_all-append (op_right core) (steps_of part) (steps_of (in_sequence parts))
     ∙ ap (λ b. part_right core part && b) (right-sequence core parts)
 
 module _ (core : Core) (m : Method) where
+  -- ---- core code
+
   -- parts one after another
-  abbrev pub after_all : Code → List StackKind → Kinds
+  abbrev pub after_all : Trees → List StackKind → Kinds
   after_all [] stack = Some stack
   after_all (part ∷ parts) stack = and_then (kinds_after core m part stack) (λ between. after_all parts between)
 
-  after-in_sequence : (parts : Code) (stack : List StackKind) →
+  after-in_sequence : (parts : Trees) (stack : List StackKind) →
       kinds_after core m (in_sequence parts) stack ≡ after_all parts stack
   after-in_sequence [] stack = refl
   after-in_sequence (part ∷ parts) stack =
       then-agree (kinds_after core m part stack) (kinds_after core m (in_sequence parts)) (after_all parts)
       (after-in_sequence parts)
 
-  after-append : (a b : Code) (stack : List StackKind) →
+  after-append : (a b : Trees) (stack : List StackKind) →
       after_all (a ++ b) stack ≡ and_then (after_all a stack) (after_all b)
   after-append [] b stack = refl
   after-append (part ∷ a) b stack =
@@ -137,33 +143,98 @@ module _ (core : Core) (m : Method) where
       ∙ sym (then-assoc (kinds_after core m part stack) (after_all a) (after_all b))
 
   -- the code makes the second stack of the first, also of their heights, and its calls are right
-  pub record Runs (code : Code) (before after : List StackKind) : Type 0 where
+  pub record TreesRun (code : Trees) (before after : List StackKind) : Type 0 where
     pub runs : after_all code before ≡ Some after
     pub high : heights code (length before) ≡ Some (length after)
     pub calls : calls_right core code ≡ true
 
-  pub whole : {code : Code} {s t : List StackKind} → Runs code s t →
+  pub whole : {code : Trees} {s t : List StackKind} → TreesRun code s t →
       kinds_after core m (in_sequence code) s ≡ Some t
   whole {code} {s} r = after-in_sequence code s ∙ r.runs
 
-  pub whole_high : {code : Code} {s t : List StackKind} → Runs code s t →
+  pub whole_high : {code : Trees} {s t : List StackKind} → TreesRun code s t →
       height_after (in_sequence code) (length s) ≡ Some (length t)
   whole_high {code} {s} r = height-sequence code (length s) ∙ r.high
 
-  pub whole_calls : {code : Code} {s t : List StackKind} → Runs code s t → part_right core (in_sequence code) ≡ true
+  pub whole_calls : {code : Trees} {s t : List StackKind} → TreesRun code s t →
+      part_right core (in_sequence code) ≡ true
   whole_calls {code} r = right-sequence core code ∙ r.calls
 
-  pub nothing : (s : List StackKind) → Runs [] s s
-  nothing s = record { runs = refl; high = refl; calls = refl }
+  pub no_trees : (s : List StackKind) → TreesRun [] s s
+  no_trees s = record { runs = refl; high = refl; calls = refl }
 
-  pub followed : {a b : Code} {s t u : List StackKind} → Runs a s t → Runs b t u → Runs (a ++ b) s u
-  followed {a} {b} {s} x y =
+  pub trees_followed : (a b : Trees) {s t u : List StackKind} → TreesRun a s t → TreesRun b t u →
+      TreesRun (a ++ b) s u
+  trees_followed a b {s} x y =
       record {
         runs = after-append a b s ∙ ap (λ (o : Kinds). and_then o (after_all b)) x.runs ∙ y.runs;
         high =
             heights-append a b (length s) ∙ ap (λ (o : Option ℕ). high_then o (heights b)) x.high ∙ y.high;
         calls = list_all-append (part_right core) a b
             ∙ and_from (calls_right core a) (calls_right core b) x.calls y.calls;
+      }
+
+  -- a part alone
+  part-runs : (part : Tree) {s t : List StackKind} → kinds_after core m part s ≡ Some t →
+      height_after part (length s) ≡ Some (length t) → part_right core part ≡ true → TreesRun (part ∷ []) s t
+  part-runs part e f g =
+      record {
+        runs = ap (λ (k : Kinds). and_then k (λ between. Some between)) e;
+        high = ap (λ (h : Option ℕ). high_then h (λ k. Some k)) f;
+        calls = and_from (part_right core part) true g refl;
+      }
+
+  -- an operation, which takes values from the top and leaves others
+  pub tree_once : (place : Place) (o : CoreOp) (values made rest : List StackKind) → length values ≡ pops o →
+      length made ≡ pushes o → is_right_call core o ≡ true →
+      kinds_after_op core m o (values ++ rest) ≡ Some (made ++ rest) →
+      TreesRun (one place o) (values ++ rest) (made ++ rest)
+  tree_once place o values made rest p q right e =
+      part-runs (Op (record { 0 = 0 }) place o) e (moved values made rest (pops o) (pushes o) p q)
+      (and_from (is_right_call core o) true right refl)
+
+  pub trees_chosen : (a b : Trees) {s t u v : List StackKind} → TreesRun a s t → TreesRun b s u →
+      joined_stack t u ≡ Some v → TreesRun (fork a b) s v
+  trees_chosen a b {s} {t} {u} {v} x y e =
+      let lengths = same_heights t u v e in
+      part-runs (Choice (in_sequence a) (in_sequence b))
+      (ap (λ (o : Kinds). and_then o (λ l. and_then (kinds_after core m (in_sequence b) s) (λ r. joined_stack l r)))
+      (whole x)
+      ∙ ap (λ (o : Kinds). and_then o (λ r. joined_stack t r)) (whole y) ∙ e)
+      (ap (λ o. same_height o (height_after (in_sequence b) (length s))) (whole_high x)
+      ∙ ap (same_height (Some (length t))) (whole_high y)
+      ∙ ap (λ test. cond test (Some (length t)) None)
+      (eq-eqb (length t) (length u) (lengths.0 ∙ sym lengths.1))
+      ∙ ap (λ (h : ℕ). Some h) lengths.0)
+      (list_all-append (op_right core) (steps_of (in_sequence a)) (steps_of (in_sequence b))
+      ∙ and_from (part_right core (in_sequence a)) (part_right core (in_sequence b)) (whole_calls x) (whole_calls y))
+
+  pub trees_looped : (a : Trees) → TreesRun a [] [] → TreesRun (loop_of a) [] []
+  trees_looped a x =
+      part-runs (Loop (in_sequence a))
+      (ap (λ (o : Kinds). and_then o (λ after. where_true (same_stack [] after) [])) (whole x))
+      (ap (same_height (Some 0)) (whole_high x)) (whole_calls x)
+
+  pub trees_locked : (kind : LockKind) (place : Place) (lock : StackKind) (a : Trees) → TreesRun a [] [] →
+      TreesRun (Sync (lock_at kind place) (in_sequence a) ∷ []) (lock ∷ []) []
+  trees_locked kind place lock a x =
+      part-runs (Sync (lock_at kind place) (in_sequence a)) (whole x) (whole_high x) (whole_calls x)
+
+  -- ---- values of expressions
+
+  pub record Runs (code : Code) (before after : List StackKind) : Type 0 where
+    pub steady : is_steady (in_order code) ≡ true
+    pub own : TreesRun (plain_code (in_order code)) before after
+
+  pub nothing : (s : List StackKind) → Runs [] s s
+  nothing s = record { steady = refl; own = no_trees s }
+
+  pub followed : {a b : Code} {s t u : List StackKind} → Runs a s t → Runs b t u → Runs (a ++ b) s u
+  followed {a} {b} {s} {t} {u} x y =
+      record {
+        steady = steady-append a b x.steady y.steady;
+        own = subst (λ (c : Trees). TreesRun c s u) (sym (plain-append a b))
+            (trees_followed (plain_code (in_order a)) (plain_code (in_order b)) x.own y.own);
       }
 
   pub in_turn_3 : {a b c : Code} {s t u v : List StackKind} → Runs a s t → Runs b t u → Runs c u v →
@@ -190,51 +261,29 @@ module _ (core : Core) (m : Method) where
   pub grouped : (a b c : Code) {s t : List StackKind} → Runs (a ++ (b ++ c)) s t → Runs (a ++ b ++ c) s t
   grouped a b c {s} {t} x = subst (λ code. Runs code s t) (sym (append_assoc a b c)) x
 
-  -- a part alone
-  part-runs : (part : Tree) {s t : List StackKind} → kinds_after core m part s ≡ Some t →
-      height_after part (length s) ≡ Some (length t) → part_right core part ≡ true → Runs (part ∷ []) s t
-  part-runs part e f g =
-      record {
-        runs = ap (λ (k : Kinds). and_then k (λ between. Some between)) e;
-        high = ap (λ (h : Option ℕ). high_then h (λ k. Some k)) f;
-        calls = and_from (part_right core part) true g refl;
-      }
+  -- an operation behind which code goes on, and whose call is right
+  abbrev pub is_plain_op : CoreOp → Bool
+  is_plain_op o = is_same Normal (op_end o) && is_right_call core o
 
-  -- an operation, which takes values from the top and leaves others
   pub once : (place : Place) (o : CoreOp) (values made rest : List StackKind) → length values ≡ pops o →
-      length made ≡ pushes o → is_right_call core o ≡ true →
+      length made ≡ pushes o → is_plain_op o ≡ true →
       kinds_after_op core m o (values ++ rest) ≡ Some (made ++ rest) →
       Runs (op_at place o) (values ++ rest) (made ++ rest)
   once place o values made rest p q right e =
-      part-runs (Op (record { 0 = 0 }) place o) e (moved values made rest (pops o) (pushes o) p q)
-      (and_from (is_right_call core o) true right refl)
+      let both = and_parts (is_same Normal (op_end o)) (is_right_call core o) right in
+      record {
+        steady = and_from (is_same Normal (op_end o)) true both.0 refl;
+        own = tree_once place o values made rest p q both.1 e;
+      }
 
   pub chosen : {a b : Code} {s t u v : List StackKind} → Runs a s t → Runs b s u → joined_stack t u ≡ Some v →
       Runs (choice a b) s v
-  chosen {a} {b} {s} {t} {u} {v} x y e =
-      let lengths = same_heights t u v e in
-      part-runs (Choice (in_sequence a) (in_sequence b))
-      (ap (λ (o : Kinds). and_then o (λ l. and_then (kinds_after core m (in_sequence b) s) (λ r. joined_stack l r)))
-      (whole x)
-      ∙ ap (λ (o : Kinds). and_then o (λ r. joined_stack t r)) (whole y) ∙ e)
-      (ap (λ o. same_height o (height_after (in_sequence b) (length s))) (whole_high x)
-      ∙ ap (same_height (Some (length t))) (whole_high y)
-      ∙ ap (λ test. cond test (Some (length t)) None)
-      (eq-eqb (length t) (length u) (lengths.0 ∙ sym lengths.1))
-      ∙ ap (λ (h : ℕ). Some h) lengths.0)
-      (list_all-append (op_right core) (steps_of (in_sequence a)) (steps_of (in_sequence b))
-      ∙ and_from (part_right core (in_sequence a)) (part_right core (in_sequence b)) (whole_calls x) (whole_calls y))
-
-  pub again : {a : Code} → Runs a [] [] → Runs (repeated a) [] []
-  again {a} x =
-      part-runs (Loop (in_sequence a))
-      (ap (λ (o : Kinds). and_then o (λ after. where_true (same_stack [] after) [])) (whole x))
-      (ap (same_height (Some 0)) (whole_high x)) (whole_calls x)
-
-  pub locked : (kind : LockKind) (place : Place) (lock : StackKind) {a : Code} → Runs a [] [] →
-      Runs (held kind place a) (lock ∷ []) []
-  locked kind place lock {a} x =
-      part-runs (Sync (lock_at kind place) (in_sequence a)) (whole x) (whole_high x) (whole_calls x)
+  chosen {a} {b} x y e =
+      record {
+        steady = and_from (is_steady (in_order a) && is_steady (in_order b)) true
+            (and_from (is_steady (in_order a)) (is_steady (in_order b)) x.steady y.steady) refl;
+        own = trees_chosen (plain_code (in_order a)) (plain_code (in_order b)) x.own y.own e;
+      }
 
   -- ---- values
 

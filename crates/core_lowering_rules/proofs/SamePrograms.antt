@@ -9,7 +9,7 @@ use Rattle.racer_base.specs.declared.ids.Kind.{Kind}
 use Rattle.racer_base.specs.declared.ids.MethodId.{MethodId}
 use Rattle.racer_base.specs.declared.ids.Place.{Place}
 use Rattle.racer_base.specs.declared.limits.TheConstants.{MAX_PARAMETERS, MAX_LOCALS}
-use Rattle.racer_base.proofs.Lists.{same_3}
+use Rattle.racer_base.proofs.Lists.{same_3, same_4}
 use Rattle.java_tree.specs.declared.unit.ClassTree.{ClassTree}
 use Rattle.java_tree.specs.declared.unit.Member.{Member}
 use Rattle.java_tree.specs.declared.unit.Unit as unit
@@ -22,11 +22,13 @@ use Rattle.java_resolver.specs.Declarations.{class_fields, fields_of, class_meth
 use Rattle.java_resolver.specs.Refusals.{refused, refusal}
 use Rattle.core_code.specs.Chains.{flag_of, IsOnCycle, TellCycles}
 use Rattle.core_code.specs.declared.code.Reason.{Reason}
-use Rattle.core_code.specs.declared.code.Reason.TheVariants.{Overload, Outside, Parameters, Locals, Recursive}
+use Rattle.core_code.specs.declared.code.Reason.TheVariants.{Overload, Outside, Parameters, Locals, Operations}
+use Rattle.core_code.specs.declared.code.Reason.TheVariants.{Recursive}
 use Rattle.core_code.specs.Core.{Core, Method}
 use Rattle.core_code.specs.Recursion.{all_rows}
 use Rattle.core_code.specs.Tree.{in_sequence}
-use Rattle.core_lowering_rules.specs.Context.{Folder, Code}
+use Rattle.core_lowering_drafts.specs.Only.{Code}
+use Rattle.core_lowering_rules.specs.Context.{Folder}
 use Rattle.core_lowering_rules.specs.Methods.{Source, this_kinds}
 use Rattle.core_lowering_rules.specs.Sites.{numbered}
 use Rattle.core_lowering_rules.specs.Programs.{class_sources, sources_of, status_of, declared_in, statuses_from}
@@ -39,7 +41,7 @@ use Rattle.core_lowering_rules.proofs.ZippedLists.{zip-map, zip-flat, zip-append
 use Rattle.core_lowering_rules.proofs.SameMembers.{by-form, class-alike, class_fields-alike, class_methods-alike}
 use Rattle.core_lowering_rules.proofs.SameSources.{SameSource, class_sources-same, method_code-alike}
 use Rattle.core_lowering_rules.proofs.SameSources.{method_kinds-alike}
-use Rattle.core_lowering_rules.proofs.SameSources.{outside-alike}
+use Rattle.core_lowering_rules.proofs.SameSources.{outside-alike, past-alike}
 
 -- ---- class by class
 
@@ -65,20 +67,20 @@ by_class-same f one n (a ∷ us) (b ∷ vs) h =
 
 -- ---- method by method
 
-abbrev status_with : Folder → Bool → MethodInfo → Bool → List Kind → Option Reason
-status_with folder recursive i outside kinds =
+abbrev status_with : Folder → Bool → MethodInfo → Bool → List Kind → Bool → Option Reason
+status_with folder recursive i outside kinds large =
     option_or (where_so (is_overloaded folder.methods i) Overload)
     (option_or (where_so outside Outside)
     (option_or (where_so (nat_lt MAX_PARAMETERS (length i.parameters)) Parameters)
     (option_or
     (where_so (nat_lt MAX_LOCALS (length kinds - length (this_kinds i) - length i.parameters)) Locals)
-    (where_so recursive Recursive))))
+    (option_or (where_so large Operations) (where_so recursive Recursive)))))
 
 status-alike : (folder : Folder) (recursive : Bool) (s t : Source) → SameSource s t
     → status_of folder recursive s ≡ status_of folder recursive t
 status-alike folder recursive s t same =
-    same_3 (status_with folder recursive) same.info (outside-alike folder s t same)
-    (method_kinds-alike folder s t same)
+    same_4 (status_with folder recursive) same.info (outside-alike folder s t same)
+    (method_kinds-alike folder s t same) (past-alike folder s t same)
 
 statuses-alike : (folder : Folder) (r : MethodId → Bool) (n : ℕ) (ss ts : List Source) → AllZip SameSource ss ts
     → statuses_from folder r n ss ≡ statuses_from folder r n ts

@@ -1,10 +1,10 @@
 -- Methods that are the same have the same code and variables.
-use Rattle.std.proofs.Common.{◌≡◌, ℕ, Bool, true, false, ◌||◌, cond, List, [], ◌∷◌, ◌++◌, codes, map}
+use Rattle.std.proofs.Common.{◌≡◌, ℕ, Bool, false, not, length, ◌||◌, cond, List, [], ◌∷◌, ◌++◌, codes, map}
 use Rattle.std.proofs.Common.{refl, ap, ap₂, sym, ◌∙◌, subst}
 use Rattle.std.specs.List.{AllZip, flat_map, list_any}
 use Rattle.racer_base.specs.declared.ids.ClassId.{ClassId}
 use Rattle.racer_base.specs.declared.ids.Kind.{Kind}
-use Rattle.racer_base.proofs.Lists.{same_4}
+use Rattle.racer_base.proofs.Lists.{same_3, same_4}
 use Rattle.java_tree.specs.declared.words.Ident.{Ident}
 use Rattle.java_tree.specs.declared.methods.FieldInitialiser.{FieldInitialiser}
 use Rattle.java_tree.specs.declared.methods.FieldInitialiser.TheVariants as field
@@ -27,21 +27,25 @@ use Rattle.java_resolver.specs.Declarations.{member_is_constructor}
 use Rattle.java_resolver.specs.Words.{has_word}
 use Rattle.core_lowering_rules.specs.Trees as lowered
 use Rattle.core_lowering_rules.specs.Context.{Folder, Context, Result, Itself, Nothing, Value, Code, op, type_kind}
+use Rattle.core_lowering_rules.specs.Context.{made}
 use Rattle.core_lowering_rules.specs.Assignments.{of_name, assigned}
 use Rattle.core_lowering_rules.specs.Expressions.{init_kind, init_code}
 use Rattle.core_lowering_rules.specs.Scopes.{declared, after_all}
 use Rattle.core_lowering_rules.specs.Methods.{Body, Default, Spelled, Unspelled, Source, this_kinds, entered}
 use Rattle.core_lowering_rules.specs.Methods.{parameters_declared, field_begun, member_begun, fields_begun, body_of}
-use Rattle.core_lowering_rules.specs.Methods.{block}
+use Rattle.core_lowering_rules.specs.Methods.{block_code, none_analysed, is_large, is_past, is_past_limit, end_of}
+use Rattle.core_lowering_rules.specs.Methods.{is_apart}
 use Rattle.core_lowering_rules.specs.Methods.{locked, body_code, ended, spelled_code, code_in, method_code, kinds_in}
-use Rattle.core_lowering_rules.specs.Methods.{method_kinds, other_lock_in, has_other_lock}
+use Rattle.core_lowering_rules.specs.Methods.{method_kinds, has_other_lock}
+use Rattle.core_lowering_drafts.specs.Only.{Code as Trees}
+use Rattle.core_lowering_drafts.specs.Sizes.{is_small}
+use Rattle.core_code.specs.Tree.{in_sequence}
+use Rattle.java_tree.specs.Spelling.{spelling}
 use Rattle.core_lowering_rules.specs.Methods as methods
-use Rattle.core_lowering_rules.specs.LoweredForms.{are_lowered, method_body}
 use Rattle.core_lowering_rules.specs.Programs.{member_sources, default_sources, class_sources, is_unspelled, is_outside}
 use Rattle.core_code.specs.declared.code.Op.TheVariants.{Drop}
 use Rattle.core_lowering_rules.proofs.FilledMethods.{SeenParameter, Seen, seen_parameter, seen, same_seen, same_body}
 use Rattle.core_lowering_rules.proofs.FilledMethods.{same_initialiser}
-use Rattle.core_lowering_rules.proofs.LoweredTrees.{parts-lowered}
 use Rattle.core_lowering_rules.proofs.ZippedLists.{zip-flat, zip-append, zip-zips, zip-unless}
 use Rattle.core_lowering_rules.proofs.SameMembers.{by-form, same_modifiers, constructor-alike, modifiers-alike}
 use Rattle.core_lowering_rules.proofs.SameMembers.{constructs-alike, method-alike, head-alike, default-alike}
@@ -50,7 +54,7 @@ use Rattle.core_lowering_rules.proofs.SameMembers.{constructs-alike, method-alik
 
 abbrev pub SameBody : Body → Body → Type 0
 SameBody Default Default = Unit {0}
-SameBody (Spelled m) (Spelled n) = SameMethod m n × (are_lowered (body_of m) ≡ true)
+SameBody (Spelled m) (Spelled n) = SameMethod m n
 SameBody Unspelled Unspelled = Unit {0}
 SameBody _ _ = ⊥
 
@@ -59,28 +63,13 @@ pub record SameSource (s t : Source) : Type 0 where
   pub members : AllZip SameMember s.members t.members
   pub body : SameBody s.body t.body
 
--- of two methods that are the same, both are lowered or neither
-either-same : (b c : Bool) (m n : MethodTree) → are_lowered (body_of m) ≡ b → are_lowered (body_of n) ≡ c
-    → SameMethod m n → SameBody (cond b (Spelled m) Unspelled) (cond c (Spelled n) Unspelled)
-either-same true true m n low lower h = (h, low)
-either-same true false m n low lower h =
-    let one : true ≡ false =
-    sym low ∙ ap are_lowered (same_body m n h.0 h.1 (parts-lowered (body_of m) low)) ∙ lower in absurd cc
-either-same false true m n low lower h =
-    let one : true ≡ false =
-    sym lower ∙ ap are_lowered (same_body n m (sym h.0) (sym h.1) (parts-lowered (body_of n) lower)) ∙ low in absurd cc
-either-same false false m n low lower h = tt
-
-bodies-same : (m n : MethodTree) → SameMethod m n → SameBody (method_body m) (method_body n)
-bodies-same m n h = either-same (are_lowered (body_of m)) (are_lowered (body_of n)) m n refl refl h
-
 module _ (names : List (List ℕ)) (c : ClassId) (a b : ClassTree) (same : SameClass a b) where
   members-same : (x y : Member) → SameMember x y
       → AllZip SameSource (member_sources names c a x) (member_sources names c b y)
   members-same =
       by-form (λ x y. AllZip SameSource (member_sources names c a x) (member_sources names c b y)) (λ f g h. tt)
       (λ m n h.
-      (record { info = method-alike names c m n h; members = same.members; body = bodies-same m n h }, tt))
+      (record { info = method-alike names c m n h; members = same.members; body = h }, tt))
       (λ h k e. (record { info = head-alike names c h k e; members = same.members; body = tt }, tt)) (λ p q e. tt)
 
   abbrev default_of : ClassTree → Source
@@ -161,30 +150,36 @@ parameters-alike context m n e =
     declared-all context m.parameters ∙ ap (λ (s : Seen). declared_all context s.parameters) e
     ∙ sym (declared-all context n.parameters)
 
-abbrev spelled : Bool → Code → List ModifierTree → lowered.Stmts → Context → Code
+abbrev spelled : Bool → Trees → List ModifierTree → lowered.Stmts → Context → Trees
 spelled constructs fields ms ss context =
-    let body = locked context (has_word (codes "synchronized") ms) (block context ss) in
+    let body = locked context (has_word (codes "synchronized") ms) (block_code context ss) in
     cond constructs (fields ++ body) body
 
 spelled-alike : (context : Context) (xs ys : List Member) → AllZip SameMember xs ys → (m n : MethodTree)
     → SameMethod m n → body_of m ≡ body_of n → spelled_code context xs m ≡ spelled_code context ys n
 spelled-alike context xs ys h m n same body =
     same_4 (λ constructs fields ms ss. spelled constructs fields ms ss context) (constructor-alike m n same.0)
-    (fields-alike context xs ys h) (modifiers-alike m n same.0)
+    (ap made (fields-alike context xs ys h)) (modifiers-alike m n same.0)
     body
+
+large-alike : (context : Context) (m n : MethodTree) → SameMethod m n → is_large context m ≡ is_large context n
+large-alike context m n k =
+    ap₂ (λ (v : view.Method) ss. not (is_small (length (spelling v))
+    (in_sequence (block_code (none_analysed context) ss)))) k.0 (same_body m n k.0 k.1)
 
 code-alike : (context : Context) (s t : Source) → AllZip SameMember s.members t.members → (x y : Body) → SameBody x y
     → code_in context s x ≡ code_in context t y
-code-alike context s t h Default Default k = ap (ended context) (fields-alike context s.members t.members h)
+code-alike context s t h Default Default k =
+    ap (λ (c : Code). ended context (made c)) (fields-alike context s.members t.members h)
 code-alike context s t h Default (Spelled n) k = absurd k
 code-alike context s t h Default Unspelled k = absurd k
 code-alike context s t h (Spelled m) Default k = absurd k
 code-alike context s t h (Spelled m) (Spelled n) k =
-    ap (λ inside. ended context (spelled_code inside s.members m))
-    (parameters-alike context m n (same_seen m n k.0.0 k.0.1))
-    ∙ ap (ended context)
-    (spelled-alike (parameters_declared context n.parameters) s.members t.members h m n k.0
-    (same_body m n k.0.0 k.0.1 (parts-lowered (body_of m) k.1)))
+    let inside = parameters_declared context n.parameters in
+    ap (λ (c : Context). cond (is_large c m) [] (ended c (spelled_code c s.members m)))
+    (parameters-alike context m n (same_seen m n k.0 k.1))
+    ∙ ap₂ (λ (large : Bool) (code : Trees). cond large [] (ended inside code)) (large-alike inside m n k)
+    (spelled-alike inside s.members t.members h m n k (same_body m n k.0 k.1))
 code-alike context s t h (Spelled m) Unspelled k = absurd k
 code-alike context s t h Unspelled Default k = absurd k
 code-alike context s t h Unspelled (Spelled n) k = absurd k
@@ -197,8 +192,8 @@ kinds-alike context s t e Default (Spelled n) k = absurd k
 kinds-alike context s t e Default Unspelled k = absurd k
 kinds-alike context s t e (Spelled m) Default k = absurd k
 kinds-alike context s t e (Spelled m) (Spelled n) k =
-    ap₂ (λ inside ss. (after_all inside ss).kinds) (parameters-alike context m n (same_seen m n k.0.0 k.0.1))
-    (same_body m n k.0.0 k.0.1 (parts-lowered (body_of m) k.1))
+    ap₂ (λ inside ss. (after_all inside ss).kinds) (parameters-alike context m n (same_seen m n k.0 k.1))
+    (same_body m n k.0 k.1)
 kinds-alike context s t e (Spelled m) Unspelled k = absurd k
 kinds-alike context s t e Unspelled Default k = absurd k
 kinds-alike context s t e Unspelled (Spelled n) k = absurd k
@@ -222,7 +217,7 @@ results-alike kind Default (Spelled n) k = absurd k
 results-alike kind Default Unspelled k = absurd k
 results-alike kind (Spelled m) Default k = absurd k
 results-alike kind (Spelled m) (Spelled n) k =
-    result-is kind m.result ∙ ap (λ (v : view.Method). result_by kind v.result) k.0.0 ∙ sym (result-is kind n.result)
+    result-is kind m.result ∙ ap (λ (v : view.Method). result_by kind v.result) k.0 ∙ sym (result-is kind n.result)
 results-alike kind (Spelled m) Unspelled k = absurd k
 results-alike kind Unspelled Default k = absurd k
 results-alike kind Unspelled (Spelled n) k = absurd k
@@ -234,9 +229,15 @@ entered_by folder i r =
       folder = folder;
       place = i.place;
       result = r;
+      given = i.result;
       scope = record { class = i.class; is_static = i.is_static; variables = [] };
       kinds = this_kinds i;
+      exits = 0;
+      labels = [];
+      targets = [];
+      guards = [];
       other_lock = false;
+      is_apart = false;
     }
 
 entered-alike : (folder : Folder) (s t : Source) → SameSource s t → entered folder s ≡ entered folder t
@@ -267,25 +268,44 @@ unspelled-alike Unspelled Default k = absurd k
 unspelled-alike Unspelled (Spelled n) k = absurd k
 unspelled-alike Unspelled Unspelled k = refl
 
-other_lock-in_same : (context : Context) (s t : Source) (x y : Body) → SameBody x y →
-    other_lock_in context x ≡ other_lock_in context y
-other_lock-in_same context s t Default Default k = refl
-other_lock-in_same context s t Default (Spelled n) k = absurd k
-other_lock-in_same context s t Default Unspelled k = absurd k
-other_lock-in_same context s t (Spelled m) Default k = absurd k
-other_lock-in_same context s t (Spelled m) (Spelled n) k =
-    ap₂ (λ inside ss. (after_all inside ss).other_lock) (parameters-alike context m n (same_seen m n k.0.0 k.0.1))
-    (same_body m n k.0.0 k.0.1 (parts-lowered (body_of m) k.1))
-other_lock-in_same context s t (Spelled m) Unspelled k = absurd k
-other_lock-in_same context s t Unspelled Default k = absurd k
-other_lock-in_same context s t Unspelled (Spelled n) k = absurd k
-other_lock-in_same context s t Unspelled Unspelled k = refl
+end-alike : (context : Context) (x y : Body) → SameBody x y → end_of context x ≡ end_of context y
+end-alike context Default Default k = refl
+end-alike context Default (Spelled n) k = absurd k
+end-alike context Default Unspelled k = absurd k
+end-alike context (Spelled m) Default k = absurd k
+end-alike context (Spelled m) (Spelled n) k =
+    ap₂ after_all (parameters-alike context m n (same_seen m n k.0 k.1)) (same_body m n k.0 k.1)
+end-alike context (Spelled m) Unspelled k = absurd k
+end-alike context Unspelled Default k = absurd k
+end-alike context Unspelled (Spelled n) k = absurd k
+end-alike context Unspelled Unspelled k = refl
 
-other_lock-alike : (folder : Folder) (s t : Source) → SameSource s t → has_other_lock folder s ≡ has_other_lock folder t
-other_lock-alike folder s t same =
-    ap (λ context. other_lock_in context s.body) (entered-alike folder s t same)
-    ∙ other_lock-in_same (entered folder t) s t s.body t.body same.body
+ends-alike : (folder : Folder) (s t : Source) → SameSource s t
+    → end_of (entered folder s) s.body ≡ end_of (entered folder t) t.body
+ends-alike folder s t same =
+    ap (λ context. end_of context s.body) (entered-alike folder s t same)
+    ∙ end-alike (entered folder t) s.body t.body same.body
 
 pub outside-alike : (folder : Folder) (s t : Source) → SameSource s t → is_outside folder s ≡ is_outside folder t
 outside-alike folder s t same =
-    ap₂ (λ a b. a || b) (unspelled-alike s.body t.body same.body) (other_lock-alike folder s t same)
+    let e = ends-alike folder s t same in
+    same_3 (λ a b c. a || b || c) (unspelled-alike s.body t.body same.body) (ap (λ (c : Context). c.other_lock) e)
+    (ap (λ (c : Context). c.is_apart) e)
+
+past-by : (context : Context) (x y : Body) → SameBody x y → is_past context x ≡ is_past context y
+past-by context Default Default k = refl
+past-by context Default (Spelled n) k = absurd k
+past-by context Default Unspelled k = absurd k
+past-by context (Spelled m) Default k = absurd k
+past-by context (Spelled m) (Spelled n) k =
+    ap (λ (c : Context). is_large c m) (parameters-alike context m n (same_seen m n k.0 k.1))
+    ∙ large-alike (parameters_declared context n.parameters) m n k
+past-by context (Spelled m) Unspelled k = absurd k
+past-by context Unspelled Default k = absurd k
+past-by context Unspelled (Spelled n) k = absurd k
+past-by context Unspelled Unspelled k = refl
+
+pub past-alike : (folder : Folder) (s t : Source) → SameSource s t → is_past_limit folder s ≡ is_past_limit folder t
+past-alike folder s t same =
+    ap (λ context. is_past context s.body) (entered-alike folder s t same)
+    ∙ past-by (entered folder t) s.body t.body same.body

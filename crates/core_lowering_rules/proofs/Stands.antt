@@ -12,7 +12,7 @@ use Rattle.core_code.specs.Core.{Core, Method}
 use Rattle.core_code.specs.Calls.{method_at, taken_by}
 use Rattle.core_code.specs.Calls as core_calls
 use Rattle.core_code.specs.KindCheck.{field_at, variable_at}
-use Rattle.core_lowering_rules.specs.Context.{Context, Folder, Result, Itself, Nothing, Value}
+use Rattle.core_lowering_rules.specs.Context.{Context, Folder, Guard, Result, Itself, Nothing, Value}
 use Rattle.core_lowering_rules.specs.Programs.{field_core}
 use Rattle.core_lowering_rules.proofs.FoundElements.{Each}
 
@@ -38,6 +38,10 @@ IsResult m Itself =
 IsResult m Nothing = m.result ≡ Plain
 IsResult m (Value k) = m.result ≡ k
 
+-- what is returned through a `finally` is kept in a variable of the kind of the result
+abbrev pub IsGuard : Method → Guard → Type 0
+IsGuard m guard = elim guard.variable [ None ↦ Unit {0} | Some v ↦ variable_at m v ≡ Some m.result ]
+
 -- what the program has of the folder
 pub record FolderStands (core : Core) (folder : Folder) : Type 0 where
   pub fields : (f : FieldId) (info : FieldInfo) → slice_get folder.fields f.0 ≡ Some info →
@@ -57,3 +61,5 @@ pub record Stands (core : Core) (m : Method) (context : Context) : Type 0 where
   pub object : context.scope.is_static ≡ false →
       variable_at m (record { 0 = 0 }) ≡ Some (Declared context.scope.class)
   pub gives : IsResult m context.result
+  pub given : context.given ≡ m.result
+  pub guards : Each (IsGuard m) context.guards

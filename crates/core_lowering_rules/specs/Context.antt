@@ -1,6 +1,8 @@
 -- A contract of a public call rests on this: what an expression or a statement stands in, and operations there.
-use Rattle.std.specs.Prelude.{Bool, List, [], ◌∷◌, Option, Some, None, if◌then◌else◌, is_none}
-use Rattle.std.specs.Prelude.{slice_get, false}
+use Rattle.std.specs.Prelude.{ℕ, Bool, false, List, [], ◌∷◌, ◌++◌, Option, Some, None, if◌then◌else◌, is_none}
+use Rattle.std.specs.Prelude.{slice_get}
+use Rattle.std.specs.List.{list_all}
+use Rattle.racer_base.specs.declared.ids.VarId.{VarId}
 use Rattle.racer_base.specs.declared.ids.MethodId.{MethodId}
 use Rattle.racer_base.specs.declared.ids.Kind.{Kind}
 use Rattle.racer_base.specs.declared.ids.Place.{Place}
@@ -18,7 +20,10 @@ use Rattle.core_code.specs.declared.code.Op.{Op as CoreOp}
 use Rattle.core_code.specs.declared.code.Op.TheVariants.{Push, PushClass, Outside}
 use Rattle.core_code.specs.declared.code.Reason.{Reason}
 use Rattle.core_code.specs.declared.code.LockKind.{LockKind}
-use Rattle.core_code.specs.Tree.{LockAt, Tree, Op, Choice, Loop, Sync, in_sequence}
+use Rattle.core_code.specs.Tree.{LockAt, Tree}
+use Rattle.core_lowering_drafts.specs.Drafts.{Part, Op, Choice, Loop, Sync, Within, Ending, Behind, in_order}
+use Rattle.core_lowering_drafts.specs.Drafts.{Normal, Exit, Ends, ends, has, is_same}
+use Rattle.core_lowering_drafts.specs.Only as draft
 use Rattle.core_lowering_rules.specs.ValueKinds.{ValueKind, is_converted}
 
 -- ---- what code stands in
@@ -36,15 +41,37 @@ pub data Result : Type 0 where
   Nothing : Result
   Value : Kind → Result
 
--- the folder; of the method its place and what it gives; the variables in scope; the kinds of all variables so far, and
--- whether a locked try so far stands behind the lock of what is no lock field
+-- a statement that jumps lead behind: the labels of a loop, or the label of another statement; the exit of `break`, and
+-- of a loop that of `continue`; whether a `break` without a name leads there
+pub record Target : Type 0 where
+  pub labels : List (List ℕ)
+  pub break_to : ℕ
+  pub continue_to : Option ℕ
+  pub is_unnamed : Bool
+
+-- a `try` with a `finally` round what stands in its first part: the exit of returns there, and the variable of what is
+-- returned, where a return was there
+pub record Guard : Type 0 where
+  pub exit : ℕ
+  pub variable : Option VarId
+
+-- the folder; of the method its place, what it gives and the kind of that; the variables in scope; the kinds of all
+-- variables so far; how many exits are open; the labels of the statement that comes; where jumps and returns lead, the
+-- innermost first; whether a `finally` so far unlocks what is not locked before its `try` by a lock field; and whether
+-- a jump so far has no target, or a resource is closed by a method of the folder
 pub record Context : Type 0 where
   pub folder : Folder
   pub place : Place
   pub result : Result
+  pub given : Kind
   pub scope : Scope
   pub kinds : List Kind
+  pub exits : ℕ
+  pub labels : List (List ℕ)
+  pub targets : List Target
+  pub guards : List Guard
   pub other_lock : Bool
+  pub is_apart : Bool
 
 -- the kind of a type that is written there
 abbrev pub type_kind : Context → Ty → Kind
@@ -59,29 +86,55 @@ is_analysed context m = elim (slice_get context.folder.statuses m.0) [ None ↦ 
 
 -- ---- code
 
--- Parts in reading order. No operation has its site yet.
+-- parts in reading order
 abbrev pub Code : Type 0
-Code = List Tree
+Code = List Part
+
+abbrev pub ends_of : Code → Ends
+ends_of parts = ends (in_order parts)
 
 abbrev pub op_at : Place → CoreOp → Code
-op_at place op = Op (record { 0 = 0 }) place op ∷ []
+op_at place op = Op place op ∷ []
 
 -- at the place of the method
 abbrev pub op : Context → CoreOp → Code
 op context o = op_at context.place o
 
 abbrev pub choice : Code → Code → Code
-choice left right = Choice (in_sequence left) (in_sequence right) ∷ []
+choice left right = Choice (in_order left) (in_order right) ∷ []
 
 abbrev pub repeated : Code → Code
-repeated body = Loop (in_sequence body) ∷ []
+repeated body = Loop (in_order body) ∷ []
+
+-- once at least
+abbrev pub again : Code → Code
+again body = body ++ repeated body
 
 -- the monitor of an object, or its explicit lock, locked at this place
 abbrev pub lock_at : LockKind → Place → LockAt
 lock_at kind place = record { place = place; kind = kind }
 
 abbrev pub held : LockKind → Place → Code → Code
-held kind place body = Sync (lock_at kind place) (in_sequence body) ∷ []
+held kind place body = Sync (lock_at kind place) (in_order body) ∷ []
+
+-- what is left for the exit comes out behind
+abbrev pub within : ℕ → Code → Code
+within exit body = if has (ends_of body) (Exit exit) then Within exit (in_order body) ∷ [] else body
+
+-- behind it these variables are null
+abbrev pub ending : Place → List VarId → Code → Code
+ending place [] body = body
+ending place (v ∷ vs) body = Ending (in_order body) place (v ∷ vs) ∷ []
+
+-- a body with a `finally`, and what is done last where the body was left for the exit
+abbrev pub guarded : ℕ → (body finally last : Code) → Code
+guarded exit body finally last =
+    if list_all (is_same Normal) (ends_of body) then body ++ finally
+    else Behind (in_order body) (in_order finally) exit (in_order last) ∷ []
+
+-- the core code of parts from which no exit leads
+abbrev pub made : Code → List Tree
+made parts = draft.code_of (in_order parts)
 
 -- what a value of this kind goes through on its way to a kind
 abbrev pub converted : Context → Kind → ValueKind → Code

@@ -1,5 +1,6 @@
 -- A contract of a public call rests on this: the list of files.
 pub mod Trees
+pub mod Unlocks
 pub mod TreesOf
 pub mod ValueKinds
 pub mod Context
@@ -10,7 +11,6 @@ pub mod Locks
 pub mod Scopes
 pub mod Statements
 pub mod Methods
-pub mod LoweredForms
 pub mod Sites
 pub mod Programs
 pub mod ByField

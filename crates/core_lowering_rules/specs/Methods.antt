@@ -1,5 +1,5 @@
 -- A contract of a public call rests on this: the code of methods and constructors (JLS 8.3.2, 8.4, 8.8, 12.5).
-use Rattle.std.specs.Prelude.{Bool, true, false, List, [], ◌∷◌, ◌++◌, None, codes, map}
+use Rattle.std.specs.Prelude.{Bool, true, false, not, List, [], ◌∷◌, ◌++◌, None, codes, map, length}
 use Rattle.std.specs.Prelude.{if◌then◌else◌}
 use Rattle.std.specs.List.{flat_map}
 use Rattle.racer_base.specs.declared.ids.Kind.{Kind}
@@ -12,7 +12,8 @@ use Rattle.java_tree.specs.declared.methods.MethodTree.{MethodTree}
 use Rattle.java_tree.specs.declared.methods.ParameterTree.{ParameterTree}
 use Rattle.java_tree.specs.declared.methods.ResultTree.{ResultTree}
 use Rattle.java_tree.specs.declared.methods.ResultTree.TheVariants as result
-use Rattle.java_tree.specs.View.{ty_of}
+use Rattle.java_tree.specs.Spelling.{spelling}
+use Rattle.java_tree.specs.View.{ty_of, method_of}
 use Rattle.java_tree.specs.declared.unit.Member.{Member}
 use Rattle.java_tree.specs.declared.unit.Member.TheVariants as member
 use Rattle.java_resolver.specs.declared.infos.MethodInfo.{MethodInfo}
@@ -20,11 +21,13 @@ use Rattle.java_resolver.specs.Declarations.{is_constructor}
 use Rattle.java_resolver.specs.Words.{has_word}
 use Rattle.core_code.specs.declared.code.LockKind.TheVariants.{Own}
 use Rattle.core_code.specs.declared.code.Op.TheVariants.{PushPrim, Drop, Outside}
-use Rattle.core_code.specs.Tree.{can_end, in_sequence}
+use Rattle.core_code.specs.Tree.{Tree, can_end, in_sequence}
+use Rattle.core_code.specs.Tree as tree
+use Rattle.core_lowering_drafts.specs.Sizes.{is_small}
 use Rattle.core_lowering_rules.specs.Trees.{Stmts, pack_stmts}
 use Rattle.core_lowering_rules.specs.TreesOf.{init_of, stmt_of}
 use Rattle.core_lowering_rules.specs.ValueKinds.{ValueKind, Of}
-use Rattle.core_lowering_rules.specs.Context.{Folder, Context, Result, Itself, Nothing, Value, Code, op, held}
+use Rattle.core_lowering_rules.specs.Context.{Folder, Context, Result, Itself, Nothing, Value, Code, op, made, lock_at}
 use Rattle.core_lowering_rules.specs.Context.{push_owner}
 use Rattle.core_lowering_rules.specs.Context.{type_kind}
 use Rattle.core_lowering_rules.specs.Assignments.{kind_in, of_name, assigned}
@@ -34,7 +37,7 @@ use Rattle.core_lowering_rules.specs.Statements.{closed, returned, stmts}
 
 -- ---- what a method is made of
 
--- the constructor that a class has without declaring it; a tree; what no tree spells, or not one that is lowered
+-- the constructor that a class has without declaring it; a tree; what no tree spells
 pub data Body : Type 0 where
   Default : Body
   Spelled : MethodTree → Body
@@ -68,9 +71,15 @@ entered folder s =
       folder = folder;
       place = s.info.place;
       result = result_of s.info.result s.body;
+      given = s.info.result;
       scope = record { class = s.info.class; is_static = s.info.is_static; variables = [] };
       kinds = this_kinds s.info;
+      exits = 0;
+      labels = [];
+      targets = [];
+      guards = [];
       other_lock = false;
+      is_apart = false;
     }
 
 abbrev pub parameters_declared : Context → List ParameterTree → Context
@@ -111,33 +120,53 @@ abbrev pub body_of : MethodTree → Stmts
 body_of m = pack_stmts (map stmt_of m.body)
 
 -- the body is a block; where the method is synchronized, under the lock of its object or of its class (JLS 8.4.3.6)
-abbrev pub block : Context → Stmts → Code
-block context ss = stmts context ss ++ closed context (after_all context ss)
+abbrev pub block_code : Context → Stmts → List Tree
+block_code context ss = made (closed context (after_all context ss) (stmts context ss))
 
-abbrev pub locked : Context → Bool → Code → Code
-locked context true body = push_owner context ++ held Own context.place body
+abbrev pub locked : Context → Bool → List Tree → List Tree
+locked context true body =
+    made (push_owner context) ++ tree.Sync (lock_at Own context.place) (in_sequence body) ∷ []
 locked context false body = body
 
-abbrev pub body_code : Context → MethodTree → Code
-body_code context m = locked context (has_word (codes "synchronized") m.modifiers) (block context (body_of m))
+abbrev pub body_code : Context → MethodTree → List Tree
+body_code context m = locked context (has_word (codes "synchronized") m.modifiers) (block_code context (body_of m))
 
 -- an end that can be reached is as `return;`
-abbrev pub ended : Context → Code → Code
-ended context body = if can_end (in_sequence body) then body ++ returned context None else body
+abbrev pub ended : Context → List Tree → List Tree
+ended context body = if can_end (in_sequence body) then body ++ made (returned context None) else body
 
 -- of a constructor, the fields of its object first
-abbrev pub spelled_code : Context → List Member → MethodTree → Code
+abbrev pub spelled_code : Context → List Member → MethodTree → List Tree
 spelled_code context members m =
-    if is_constructor m.result then fields_begun context members ++ body_code context m else body_code context m
+    if is_constructor m.result then made (fields_begun context members) ++ body_code context m else body_code context m
 
-abbrev pub code_in : Context → Source → Body → Code
-code_in context s Default = ended context (fields_begun context s.members)
+-- a context in which no method is analysed, so that no argument is converted
+abbrev pub none_analysed : Context → Context
+none_analysed context = record context { folder = record context.folder { statuses = [] } }
+
+-- whether the code of the block is too large for so many tokens, where no method is analysed: so it does not depend on
+-- which methods are
+abbrev pub is_large : Context → MethodTree → Bool
+is_large context m =
+    not (is_small (length (spelling (method_of m))) (in_sequence (block_code (none_analysed context) (body_of m))))
+
+abbrev pub code_in : Context → Source → Body → List Tree
+code_in context s Default = ended context (made (fields_begun context s.members))
 code_in context s (Spelled m) =
-    ended context (spelled_code (parameters_declared context m.parameters) s.members m)
+    let inside = parameters_declared context m.parameters in
+    if is_large inside m then [] else ended inside (spelled_code inside s.members m)
 code_in context s Unspelled = []
 
-abbrev pub method_code : Folder → Source → Code
+abbrev pub method_code : Folder → Source → List Tree
 method_code folder s = code_in (entered folder s) s s.body
+
+abbrev pub is_past : Context → Body → Bool
+is_past context (Spelled m) = is_large (parameters_declared context m.parameters) m
+is_past context _ = false
+
+-- whether the code of a method is past the limit
+abbrev pub is_past_limit : Folder → Source → Bool
+is_past_limit folder s = is_past (entered folder s) s.body
 
 -- ---- variables
 
@@ -150,12 +179,16 @@ kinds_in context s Unspelled = context.kinds ++ s.info.parameters
 abbrev pub method_kinds : Folder → Source → List Kind
 method_kinds folder s = kinds_in (entered folder s) s s.body
 
--- ---- locks
+-- ---- what is not analysed
 
-abbrev pub other_lock_in : Context → Body → Bool
-other_lock_in context (Spelled m) = (after_all (parameters_declared context m.parameters) (body_of m)).other_lock
-other_lock_in context _ = false
+abbrev pub end_of : Context → Body → Context
+end_of context (Spelled m) = after_all (parameters_declared context m.parameters) (body_of m)
+end_of context _ = context
 
--- whether a locked try of a method stands behind the lock of what is no lock field
+-- whether a `finally` of a method unlocks what is not locked before its `try` by a lock field
 abbrev pub has_other_lock : Folder → Source → Bool
-has_other_lock folder s = other_lock_in (entered folder s) s.body
+has_other_lock folder s = (end_of (entered folder s) s.body).other_lock
+
+-- whether a jump of a method has no target, or a resource is closed by a method of the folder
+abbrev pub is_apart : Folder → Source → Bool
+is_apart folder s = (end_of (entered folder s) s.body).is_apart

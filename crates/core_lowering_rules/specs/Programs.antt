@@ -19,7 +19,8 @@ use Rattle.java_resolver.specs.Declarations.{trees_of, classes_of, names_of, fie
 use Rattle.java_resolver.specs.Declarations.{method_info, head_info, default_constructor, member_is_constructor}
 use Rattle.java_resolver.specs.Meanings.{is_called}
 use Rattle.core_code.specs.declared.code.Reason.{Reason}
-use Rattle.core_code.specs.declared.code.Reason.TheVariants.{Overload, Outside, Parameters, Locals, Recursive}
+use Rattle.core_code.specs.declared.code.Reason.TheVariants.{Overload, Outside, Parameters, Locals, Operations}
+use Rattle.core_code.specs.declared.code.Reason.TheVariants.{Recursive}
 use Rattle.core_code.specs.declared.parts.ClassCore.{ClassCore}
 use Rattle.core_code.specs.declared.parts.FieldCore.{FieldCore}
 use Rattle.core_code.specs.Tree.{in_sequence}
@@ -29,15 +30,14 @@ use Rattle.core_code.specs.CalleeRows.{different}
 use Rattle.core_code.specs.Chains.{flag_of}
 use Rattle.core_lowering_rules.specs.Context.{Folder}
 use Rattle.core_lowering_rules.specs.Methods.{Body, Default, Unspelled, Source, this_kinds, method_code, method_kinds}
-use Rattle.core_lowering_rules.specs.Methods.{has_other_lock}
-use Rattle.core_lowering_rules.specs.LoweredForms.{method_body}
+use Rattle.core_lowering_rules.specs.Methods.{has_other_lock, is_apart, is_past_limit, Spelled}
 use Rattle.core_lowering_rules.specs.Sites.{numbered}
 
 -- ---- methods, in source order
 
 abbrev pub member_sources : List (List ℕ) → ClassId → ClassTree → Member → List Source
 member_sources names c tree (member.Method m) =
-    record { info = method_info names c m; members = tree.members; body = method_body m } ∷ []
+    record { info = method_info names c m; members = tree.members; body = Spelled m } ∷ []
 member_sources names c tree (member.Outside h) =
     record { info = head_info names c h; members = tree.members; body = Unspelled } ∷ []
 member_sources names c tree _ = []
@@ -59,10 +59,10 @@ abbrev pub is_unspelled : Body → Bool
 is_unspelled Unspelled = true
 is_unspelled _ = false
 
--- whether a method is outside the subset: no tree spells it, a statement in it is not lowered, or it locks what is no
--- lock field
+-- whether a method is outside the subset: no tree spells it, a `finally` unlocks what is no lock field, a jump has no
+-- target, or a resource is closed by a method of the folder
 abbrev pub is_outside : Folder → Source → Bool
-is_outside folder s = is_unspelled s.body || has_other_lock folder s
+is_outside folder s = is_unspelled s.body || has_other_lock folder s || is_apart folder s
 
 -- whether another method of its class has its name and its number of parameters
 abbrev pub is_overloaded : List MethodInfo → MethodInfo → Bool
@@ -81,7 +81,8 @@ status_of folder is_recursive s =
     option_or (where_so (is_overloaded folder.methods s.info) Overload)
     (option_or (where_so (is_outside folder s) Outside)
     (option_or (where_so (nat_lt MAX_PARAMETERS (length s.info.parameters)) Parameters)
-    (option_or (where_so (nat_lt MAX_LOCALS (local_count folder s)) Locals) (where_so is_recursive Recursive))))
+    (option_or (where_so (nat_lt MAX_LOCALS (local_count folder s)) Locals)
+    (option_or (where_so (is_past_limit folder s) Operations) (where_so is_recursive Recursive)))))
 
 -- what is declared, before anything is known of methods
 abbrev pub declared_in : List Unit → Folder

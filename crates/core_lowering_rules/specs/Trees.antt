@@ -79,6 +79,17 @@ pub record Variable : Type 0 where
   pub name : Ident
   pub initialiser : Option Init
 
+-- the condition of a loop, and whether it is the literal `true`
+pub record Condition : Type 0 where
+  pub on : Expr
+  pub is_true : Bool
+
+-- a resource of a `try`
+pub record Resource : Type 0 where
+  pub kind : Ty
+  pub name : Ident
+  pub value : Expr
+
 -- what stands before the first `;` of a `for`
 pub data Start : Type 0 where
   Declares : Ty → List Variable → Start
@@ -90,23 +101,34 @@ mutual
     Local : Ty → List Variable → Stmt
     If : Expr → Stmt → Stmt
     IfElse : Expr → Stmt → Stmt → Stmt
-    While : Expr → Stmt → Stmt
-    For : Start → (condition : Option Expr) → (updates : Exprs) → Stmt → Stmt
+    While : Condition → Stmt → Stmt
+    For : Start → (condition : Option Condition) → (updates : Exprs) → Stmt → Stmt
     ForEach : Ty → Ident → Expr → Stmt → Stmt
     Sync : Place → Expr → Stmts → Stmt
     Return : Option Expr → Stmt
     Block : Stmts → Stmt
     Empty : Stmt
+    Do : Stmt → Condition → Stmt
+    Throw : Place → Expr → Stmt
+    Break : Option Ident → Stmt
+    Continue : Option Ident → Stmt
+    Labelled : Ident → Stmt → Stmt
+    Assert : Expr → (told : Option Expr) → Stmt
+    Switch : Expr → Groups → Stmt
     -- `E.lock();` and the locked try behind it: the place of `lock`, E, the block and the catch clauses
     Locked : Place → Expr → Stmts → Catches → Stmt
-    -- a `try` without resources, with a `finally`, that does not stand behind its lock
-    Try : Stmts → Catches → (finally : Stmts) → Stmt
-    -- any other statement that is not lowered
-    Apart : Stmt
+    -- a `try` without a `finally`, and one with it that does not stand behind its lock
+    Try : List Resource → Stmts → Catches → Stmt
+    Finally : List Resource → Stmts → Catches → (finally : Stmts) → Stmt
 
   pub data Stmts : Type 0 where
     no_stmt : Stmts
     stmt_then : Stmt → Stmts → Stmts
+
+  -- the groups of a `switch`, each with its labels: what stands behind `case`, or nothing for `default`
+  pub data Groups : Type 0 where
+    no_group : Groups
+    group_then : (labels : List (Option Expr)) → Stmts → Groups → Groups
 
   -- catch clauses, each with the name of its parameter
   pub data Catches : Type 0 where
@@ -164,12 +186,12 @@ abbrev pub lock_before : Stmt → (finally : Stmts) → Option (Place × Expr)
 lock_before s finally = lock_of (run_call s) finally
 
 abbrev pub joined : Option (Place × Expr) → Stmt → (body : Stmts) → Catches → (finally rest : Stmts) → Stmts
-joined None s body catches finally rest = stmt_then s (stmt_then (Try body catches finally) rest)
+joined None s body catches finally rest = stmt_then s (stmt_then (Finally [] body catches finally) rest)
 joined (Some lock) s body catches finally rest = stmt_then (Locked lock.0 lock.1 body catches) rest
 
 -- a statement before others: with a locked try directly behind it, it is one
 abbrev pub put_before : Stmt → Stmts → Stmts
-put_before s (stmt_then (Try body catches finally) rest) =
+put_before s (stmt_then (Finally [] body catches finally) rest) =
     joined (lock_before s finally) s body catches finally rest
 put_before s ss = stmt_then s ss
 
@@ -181,3 +203,7 @@ pack_stmts (s ∷ ss) = put_before s (pack_stmts ss)
 abbrev pub pack_catches : List (Ident × Stmts) → Catches
 pack_catches [] = no_catch
 pack_catches (c ∷ cs) = catch_then c.0 c.1 (pack_catches cs)
+
+abbrev pub pack_groups : List (List (Option Expr) × Stmts) → Groups
+pack_groups [] = no_group
+pack_groups (g ∷ gs) = group_then g.0 g.1 (pack_groups gs)

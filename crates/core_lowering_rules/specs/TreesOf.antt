@@ -1,10 +1,11 @@
 -- A contract of a public call rests on this: the code's trees as trees that are lowered.
-use Rattle.std.specs.Prelude.{ℕ, Bool, ◌||◌, List, Option, Some, None, map, option_map, codes, bytes_eq}
+use Rattle.std.specs.Prelude.{ℕ, Bool, false, ◌||◌, List, [], Option, Some, None, map, option_map, codes}
+use Rattle.std.specs.Prelude.{bytes_eq}
 use Rattle.std.specs.Prelude.{if◌then◌else◌}
 use Rattle.java_lexer.specs.declared.token.TokenKind.{TokenKind}
 use Rattle.java_lexer.specs.declared.token.TokenKind.TheVariants as token
 use Rattle.java_tree.specs.declared.words.Ident.{Ident}
-use Rattle.java_tree.specs.declared.expressions.Expression.{Expression}
+use Rattle.java_tree.specs.declared.expressions.Expression.{Expression, out-Expression}
 use Rattle.java_tree.specs.declared.expressions.Initialiser.{Initialiser}
 use Rattle.java_tree.specs.declared.expressions.ArrayTree.{ArrayTree}
 use Rattle.java_tree.specs.declared.expressions.Expression.TheOpen.{Expression-F, Initialiser-F, ArrayTree-F}
@@ -15,7 +16,10 @@ use Rattle.java_tree.specs.declared.statements.VariableTree.{VariableTree}
 use Rattle.java_tree.specs.declared.statements.StartTree.{StartTree}
 use Rattle.java_tree.specs.declared.statements.StartTree.TheVariants as start
 use Rattle.java_tree.specs.declared.statements.Statement.{Statement}
+use Rattle.java_tree.specs.declared.statements.ResourceTree.{ResourceTree}
 use Rattle.java_tree.specs.declared.statements.ResourcesTree.{ResourcesTree}
+use Rattle.java_tree.specs.declared.statements.LabelTree.{LabelTree}
+use Rattle.java_tree.specs.declared.statements.LabelTree.TheVariants as label
 use Rattle.java_tree.specs.declared.statements.TryTree.{TryTree}
 use Rattle.java_tree.specs.declared.statements.CatchTree.{CatchTree}
 use Rattle.java_tree.specs.declared.statements.GroupTree.{GroupTree}
@@ -31,8 +35,9 @@ use Rattle.core_lowering_rules.specs.Trees.{Access, Named, Selected, Element, No
 use Rattle.core_lowering_rules.specs.Trees.{Variable}
 use Rattle.core_lowering_rules.specs.Trees.{Start, Declares, Runs, Stmt, Run, Local, If, IfElse, While, For, ForEach}
 use Rattle.core_lowering_rules.specs.Trees.{Sync}
-use Rattle.core_lowering_rules.specs.Trees.{Return, Block, Empty, Try, Apart, Stmts, Catches, pack_exprs, pack_inits}
-use Rattle.core_lowering_rules.specs.Trees.{pack_stmts, pack_catches}
+use Rattle.core_lowering_rules.specs.Trees.{Return, Block, Empty, Do, Throw, Break, Continue, Labelled, Assert, Switch}
+use Rattle.core_lowering_rules.specs.Trees.{Try, Finally, Resource, Stmts, Catches, pack_exprs, pack_inits, pack_stmts}
+use Rattle.core_lowering_rules.specs.Trees.{pack_catches, pack_groups, Condition}
 
 -- ---- expressions
 
@@ -107,6 +112,13 @@ items_of = fold-ArrayTree Expr Init Inits expr_step init_step array_step
 
 -- ---- statements
 
+abbrev pub is_true_in : Expression-F Expression Initialiser ArrayTree → Bool
+is_true_in (expression.Literal k text) = bytes_eq text (codes "true")
+is_true_in _ = false
+
+abbrev pub condition_of : Expression → Condition
+condition_of e = record { on = expr_of e; is_true = is_true_in (out-Expression e) }
+
 abbrev pub variable_of : VariableTree → Variable
 variable_of d = record { name = d.name; initialiser = option_map init_of d.initialiser }
 
@@ -121,51 +133,64 @@ if_of e s (Some t) = IfElse e s t
 abbrev pub Clause : Type 0
 Clause = Ident × Stmts
 
-abbrev pub stmt_step : Statement-F Stmt Clause (Unit {0}) Stmt → Stmt
+abbrev pub Group : Type 0
+Group = List (Option Expr) × Stmts
+
+abbrev pub resource_of : ResourceTree → Resource
+resource_of r = record { kind = ty_of r.kind; name = r.name; value = expr_of r.value }
+
+abbrev pub resources_of : Option ResourcesTree → List Resource
+resources_of None = []
+resources_of (Some rs) = map resource_of rs.items
+
+abbrev pub stmt_step : Statement-F Stmt Clause Group Stmt → Stmt
 stmt_step (statement.Block ss) = Block (pack_stmts ss.items)
 stmt_step (statement.Local l) = Local (ty_of l.kind) (map variable_of l.variables)
 stmt_step (statement.Expr e) = Run (expr_of e)
 stmt_step (statement.If e s t) = if_of (expr_of e) s.value (option_map (λ b. b.value) t)
-stmt_step (statement.While e s) = While (expr_of e) s.value
+stmt_step (statement.While e s) = While (condition_of e) s.value
 stmt_step (statement.For i condition updates s) =
-    For (start_of i) (option_map expr_of condition) (pack_exprs (map expr_of updates.items)) s.value
+    For (start_of i) (option_map condition_of condition) (pack_exprs (map expr_of updates.items)) s.value
 stmt_step (statement.ForEach is_final t x e s) = ForEach (ty_of t) x (expr_of e) s.value
 stmt_step (statement.Sync place e ss) = Sync place (expr_of e) (pack_stmts ss.items)
 stmt_step (statement.Return e) = Return (option_map expr_of e)
 stmt_step statement.Empty = Empty
-stmt_step (statement.Do s e) = Apart
-stmt_step (statement.Throw place e) = Apart
-stmt_step (statement.Break x) = Apart
-stmt_step (statement.Continue x) = Apart
-stmt_step (statement.Labelled x s) = Apart
-stmt_step (statement.Assert e f) = Apart
-stmt_step (statement.Switch e gs) = Apart
+stmt_step (statement.Do s e) = Do s.value (condition_of e)
+stmt_step (statement.Throw place e) = Throw place (expr_of e)
+stmt_step (statement.Break x) = Break x
+stmt_step (statement.Continue x) = Continue x
+stmt_step (statement.Labelled x s) = Labelled x s.value
+stmt_step (statement.Assert e f) = Assert (expr_of e) (option_map expr_of f)
+stmt_step (statement.Switch e gs) = Switch (expr_of e) (pack_groups gs.items)
 stmt_step (statement.Try t) = t.value
 
-abbrev pub catch_step : CatchTree-F Stmt Clause (Unit {0}) Stmt → Clause
+abbrev pub catch_step : CatchTree-F Stmt Clause Group Stmt → Clause
 catch_step c = (c.parameter.name, pack_stmts c.body.items)
 
-abbrev pub group_step : GroupTree-F Stmt Clause (Unit {0}) Stmt → Unit {0}
-group_step g = tt
+abbrev pub label_of : LabelTree → Option Expr
+label_of (label.Case e) = Some (expr_of e)
+label_of label.Default = None
 
--- a `try` of these parts; of one with resources, or without a `finally`, nothing more is seen
-abbrev pub tried : Option ResourcesTree → Stmts → Catches → Option Stmts → Stmt
-tried None body catches (Some finally) = Try body catches finally
-tried resources body catches finally = Apart
+abbrev pub group_step : GroupTree-F Stmt Clause Group Stmt → Group
+group_step g = (map label_of g.labels, pack_stmts g.body.items)
 
-abbrev pub try_step : TryTree-F Stmt Clause (Unit {0}) Stmt → Stmt
+abbrev pub tried : List Resource → Stmts → Catches → Option Stmts → Stmt
+tried resources body catches (Some finally) = Finally resources body catches finally
+tried resources body catches None = Try resources body catches
+
+abbrev pub try_step : TryTree-F Stmt Clause Group Stmt → Stmt
 try_step t =
-    tried t.resources (pack_stmts t.body.items) (pack_catches t.clauses.items)
+    tried (resources_of t.resources) (pack_stmts t.body.items) (pack_catches t.clauses.items)
     (option_map (λ ss. pack_stmts ss.items) t.finally)
 
 abbrev pub stmt_of : Statement → Stmt
-stmt_of = fold-Statement Stmt Clause (Unit {0}) Stmt stmt_step catch_step group_step try_step
+stmt_of = fold-Statement Stmt Clause Group Stmt stmt_step catch_step group_step try_step
 
 abbrev pub catch_of : CatchTree → Clause
-catch_of = fold-CatchTree Stmt Clause (Unit {0}) Stmt stmt_step catch_step group_step try_step
+catch_of = fold-CatchTree Stmt Clause Group Stmt stmt_step catch_step group_step try_step
 
-abbrev pub group_of : GroupTree → Unit {0}
-group_of = fold-GroupTree Stmt Clause (Unit {0}) Stmt stmt_step catch_step group_step try_step
+abbrev pub group_of : GroupTree → Group
+group_of = fold-GroupTree Stmt Clause Group Stmt stmt_step catch_step group_step try_step
 
 abbrev pub try_of : TryTree → Stmt
-try_of = fold-TryTree Stmt Clause (Unit {0}) Stmt stmt_step catch_step group_step try_step
+try_of = fold-TryTree Stmt Clause Group Stmt stmt_step catch_step group_step try_step

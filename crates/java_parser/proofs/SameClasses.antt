@@ -117,7 +117,7 @@ module _ (one : OnePlaced) (class : List ℕ) (m : List Token) where
   same_form (MethodForm front name ps) (member.Method t) (member.Method u) h k =
       let same = one m t u (record { formed = h.0.formed; spells = h.0.spelled; stands = h.1 })
       (record { formed = k.0.formed; spells = k.0.spelled; stands = k.1 }) in
-      (same.0, same.1, h.2 ∙ sym k.2)
+      (same.0, same.1, h.2 ∙ sym k.2, h.3 ∙ sym k.3)
   same_form (MethodForm front name ps) (member.Method t) (member.Outside y) h k = absurd (k.0 (method_of t) h.0)
   same_form (MethodForm front name ps) (member.Outside x) (member.Field g) h k = absurd k
   same_form (MethodForm front name ps) (member.Outside x) (member.Skipped q) h k = absurd k

@@ -52,6 +52,7 @@ fn method(alloc: Global, class: &str, member: &[Token]) -> Result<MethodTree, Re
     ensures read { IfOk result (λ tree. IsMethod class.now member.now (method_of tree)) }
     ensures places { IfOk result (λ tree. AreAt (method_marks tree) (kept member.now)) }
     ensures synchronized { IfOk result (λ tree. tree.has_synchronized ≡ has_synchronized member.now) }
+    ensures tokens { IfOk result (λ tree. tree.tokens ≡ length member.now) }
     ensures none { IsErrOf result Unformed → (m : Method) → IsMethod class.now member.now m → ⊥ }
 {
     let tree = read_method(alloc, MAX_NESTING, member)?;

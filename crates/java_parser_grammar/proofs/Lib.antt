@@ -59,5 +59,6 @@ pub mod Fronts
 mod SeenLetters
 mod OneDeclaration
 pub mod WalkedFiles
+mod CountedMembers
 pub mod Misfits
 mod UnfitRows

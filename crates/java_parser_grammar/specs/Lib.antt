@@ -19,5 +19,6 @@ pub mod Heads
 pub mod FieldDivisions
 pub mod ReadVariables
 pub mod Units
+pub mod CountedTokens
 pub mod UnitExamples
 pub mod ReadExamples

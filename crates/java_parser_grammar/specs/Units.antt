@@ -1,7 +1,7 @@
 -- A contract of a public call rests on this: what a file is read as (JLS 7.3), its classes with their members (JLS 8.1)
 -- and the types that are skipped, or its first fault.
 use Rattle.std.specs.Prelude.{◌≡◌, ℕ, Bool, not, List, [], ◌∷◌, Option, Some, None, is_some}
-use Rattle.std.specs.Prelude.{◌||◌, ◌&&◌, IsTrue, codes, filter, if◌then◌else◌}
+use Rattle.std.specs.Prelude.{◌||◌, ◌&&◌, IsTrue, codes, filter, length, if◌then◌else◌}
 use Rattle.std.specs.List.{AllZip}
 use Rattle.racer_base.specs.declared.ids.Place.{Place}
 use Rattle.java_lexer.specs.declared.token.Token.{Token}
@@ -38,12 +38,12 @@ BeginsAt (t ∷ ts) place = t.place ≡ place
 -- ---- members
 
 -- the tokens of a member of this form are read as this; the tree of a method keeps their places, that of its name also,
--- and whether `synchronized` stands among them
+-- whether `synchronized` stands among them, and how many they are
 abbrev pub HasForm : (class : List ℕ) → List Token → Form → Member → Type 0
 HasForm class m SkippedForm (member.Skipped place) = BeginsAt m place
 HasForm class m (MethodForm front name parentheses) (member.Method tree) =
     IsMethod class m (method_of tree) × AreAt (method_marks tree) (kept m)
-    × (tree.has_synchronized ≡ has_synchronized m)
+    × (tree.has_synchronized ≡ has_synchronized m) × (tree.tokens ≡ length m)
 HasForm class m (MethodForm front name parentheses) (member.Outside head) =
     ((tree : Method) → IsMethod class m tree → ⊥) × IsOutside class front name parentheses m head
 HasForm class m FieldForm (member.Field f) = AreFields m f

@@ -3,6 +3,7 @@ mod annotations;
 mod answers;
 mod brackets;
 mod classes;
+mod counts;
 mod cuts;
 mod declarations;
 mod heads;
@@ -16,6 +17,7 @@ pub use answers::{
 };
 pub use brackets::{deep_brackets, unbalanced_brackets};
 pub use classes::{annotations_of_classes, read_classes, skipped_types};
+pub use counts::tokens_are_counted;
 pub use cuts::{
     declarations_are_cut_once, items_are_the_tokens, members_are_cut_once, one_division_of_fields,
 };

@@ -14,13 +14,9 @@ use Rattle.java_parser_types.specs.Tokens.{spelled}
 use Rattle.java_parser_types.specs.Finishing.{finished}
 use Rattle.java_parser_types.specs.Endings.{as_they_are}
 use Rattle.java_parser_types.specs.ReadAnswer.{Fails}
+use Rattle.java_parser_parts.proofs.LabelLoops.{alone}
 use Rattle.java_parser_methods.proofs.ForHeads.{steps, choices}
 use Rattle.java_parser_types.proofs.ReadLoops.{some_left, none_left, regroup}
-
--- with nothing before it
-pub alone : {A : Type 0} (o : Option (List A × List Spelled)) → finished as_they_are [] o ≡ o
-alone (Some x) = refl
-alone None = refl
 
 some_more : (limit i : ℕ) → i < limit → limit - i ≡ suc (limit - (i + 1))
 some_more limit i lt = omega arith

@@ -4,6 +4,8 @@ pub mod ForHeads
 pub mod StatementLoops
 pub mod RowLoops
 pub mod TryParts
+pub mod PartLoops
+pub mod StatementParts
 pub mod WholeMethods
 pub mod LedMarks
 pub mod SameMarks

@@ -1,23 +1,23 @@
--- The loops that read labels, groups, clauses, resources and types: what they have, and what they still read.
+-- The loops that read groups, resources and types: what they have, and what they still read.
 use Rattle.std.proofs.Common.{◌≡◌, ℕ, suc, ◌+◌, ◌-◌, ◌≤◌, ◌<◌, Bool, true, false, List, [], ◌∷◌, ◌++◌, length, map}
 use Rattle.std.proofs.Common.{codes, Option, Some, None, refl, sym, ◌∙◌, ap, append-nil, append_assoc, arith}
 use Rattle.std.proofs.lemmas.List.{length-map}
 use Rattle.std.specs.Prelude.{is_some, ◌||◌, if◌then◌else◌}
 use Rattle.java_lexer.specs.declared.token.Token.{Token}
 use Rattle.java_tree.specs.declared.words.Spelled.{Spelled}
-use Rattle.java_tree.specs.Trees.{Ty, Stmt, Label, Resource, Resources, Pieces, Several, no_row, row_then, Groups}
+use Rattle.java_tree.specs.Trees.{Ty, Stmt, Label, Resource, Resources, Groups}
 use Rattle.java_tree.specs.Trees.{no_group, group_then, Stmts, pack_stmts}
 use Rattle.java_tree.specs.Formed.{has_some}
-use Rattle.java_tree.specs.View.{Group, pack_rows, pack_groups}
+use Rattle.java_tree.specs.View.{Group, pack_groups}
 use Rattle.java_parser_types.specs.declared.error.ReadError.{ReadError}
 use Rattle.java_parser_types.specs.declared.error.ReadError.TheVariants.{Memory, Unformed}
 use Rattle.java_parser_grammar.specs.ExpressionReading.{Reading}
-use Rattle.java_parser_grammar.specs.Taking.{◌>>=◌, match_option, after_sign, after_keyword}
+use Rattle.java_parser_grammar.specs.Taking.{◌>>=◌, match_option, after_sign}
 use Rattle.java_parser_grammar.specs.Readers.{Readers}
-use Rattle.java_parser_grammar.specs.StatementReading.{named_at, bars_at, begins_label, label_at, labels_at}
-use Rattle.java_parser_grammar.specs.StatementReading.{group_stmts_at, groups_at, again_at, resource_at}
+use Rattle.java_parser_grammar.specs.StatementReading.{named_at, bars_at, begins_label, labels_at}
+use Rattle.java_parser_grammar.specs.StatementReading.{group_stmts_at, groups_at, resource_at}
 use Rattle.java_parser_grammar.specs.StatementReading.{more_resources_at}
-use Rattle.java_parser_methods.specs.RowReading.{rows_onto, rows_finished, groups_onto, groups_finished, group_at}
+use Rattle.java_parser_methods.specs.RowReading.{groups_onto, groups_finished, group_at}
 use Rattle.java_parser_methods.specs.RowReading.{resource_behind, resources_close, resources_end, the_resources}
 use Rattle.java_parser_types.specs.Tokens.{spelled}
 use Rattle.java_parser_types.specs.Finishing.{finished}
@@ -44,10 +44,6 @@ none_behind : (front : List Stmt) (o : Option (Stmt × List Spelled)) → finish
     ≡ None
 none_behind front (Some x) = refl
 none_behind front None = refl
-
-pub no_keyword : (text : List ℕ) (ts : List Token) → length ts ≤ 0 → after_keyword text (map spelled ts) ≡ None
-no_keyword text [] le = refl
-no_keyword text (t ∷ ts) le = absurd (omega arith)
 
 pub no_resource : (ts : List Token) → length ts ≤ 0 → resource_behind (map spelled ts) ≡ None
 no_resource [] le = refl
@@ -102,58 +98,6 @@ module _ (readers : Readers) (n : ℕ) (total : Option (List Ty × List Spelled)
         front,
         rest,
       ) = rw k (ap (λ (xs : List Ty). as_they_are (xs, rest)) (append-nil front)) in
-      sym so_far ∙ one
-
--- ---- labels
-
-module _ (readers : Readers) (n : ℕ) (total : Option (List Label × List Spelled)) (tokens : List Token) (i : ℕ)
-    (front : List Label) where
-  pub label_goes_on : (x : Label) (here rest : List Spelled) → i < length tokens → begins_label readers here ≡ true
-      → label_at readers n here ≡ Some (x, rest)
-      → finished as_they_are front (labels_at readers n (length (map spelled tokens) - i) here) ≡ total
-      → finished as_they_are (front ++ x ∷ []) (labels_at readers n (length (map spelled tokens) - (i + 1)) rest)
-      ≡ total
-  unfolding labels_at
-  label_goes_on x here rest lt g h so_far =
-      let k = some_left tokens i lt in
-      let one : finished as_they_are front (labels_at readers n (length (map spelled tokens) - i) here) ≡ finished
-      as_they_are (front ++ x ∷ []) (labels_at readers n (length (map spelled tokens) - (i + 1)) rest) =
-      rw (k, g, h) (regroup as_they_are front x (labels_at readers n (length (map spelled tokens) - (i + 1)) rest)) in
-      sym one ∙ so_far
-
-  pub label_fails : (e : ReadError) (here : List Spelled) → i < length tokens → begins_label readers here ≡ true
-      → Fails e (label_at readers n here)
-      → finished as_they_are front (labels_at readers n (length (map spelled tokens) - i) here) ≡ total → Fails e total
-  unfolding labels_at
-  label_fails Memory here lt g h so_far = tt
-  label_fails Unformed here lt g h so_far =
-      let k = some_left tokens i lt in
-      let one : finished as_they_are front (labels_at readers n (length (map spelled tokens) - i) here) ≡ None =
-      rw (k, g, h) refl in
-      sym so_far ∙ one
-
-  pub labels_end : (rest : List Spelled) → i < length tokens → begins_label readers rest ≡ false
-      → finished as_they_are front (labels_at readers n (length (map spelled tokens) - i) rest) ≡ total
-      → total ≡ Some (front, rest)
-  unfolding labels_at
-  labels_end rest lt h so_far =
-      let k = some_left tokens i lt in
-      let one : finished as_they_are front (labels_at readers n (length (map spelled tokens) - i) rest) ≡ Some (
-        front,
-        rest,
-      ) = rw (k, h) (ap (λ (xs : List Label). as_they_are (xs, rest)) (append-nil front)) in
-      sym so_far ∙ one
-
-  pub labels_run_out : (rest : List Spelled) → length tokens ≤ i
-      → finished as_they_are front (labels_at readers n (length (map spelled tokens) - i) rest) ≡ total
-      → total ≡ Some (front, rest)
-  unfolding labels_at
-  labels_run_out rest le so_far =
-      let k = none_left tokens i le in
-      let one : finished as_they_are front (labels_at readers n (length (map spelled tokens) - i) rest) ≡ Some (
-        front,
-        rest,
-      ) = rw k (ap (λ (xs : List Label). as_they_are (xs, rest)) (append-nil front)) in
       sym so_far ∙ one
 
 -- ---- the statements of a group
@@ -321,67 +265,6 @@ module _ (readers : Readers) (read : Reading Stmt) (n : ℕ) where
         let one : groups_finished front (groups_at readers read n (length (map spelled tokens) - i) here) ≡ None =
         rw k refl in
         sym so_far ∙ one
-
--- ---- rows, each behind a keyword
-
-rows_push : (front : List Pieces) (ps : Pieces) (more : Several) → rows_onto (front ++ ps ∷ []) more ≡ rows_onto front
-    (row_then ps more)
-rows_push [] ps more = refl
-rows_push (qs ∷ front) ps more = ap (row_then qs) (rows_push front ps more)
-
-pub rows_packed : (front : List Pieces) → rows_onto front no_row ≡ pack_rows front
-rows_packed [] = refl
-rows_packed (ps ∷ front) = ap (row_then ps) (rows_packed front)
-
-regroup_rows : (front : List Pieces) (ps : Pieces) (read : Option (Several × List Spelled))
-    → rows_finished front (read >>= λ y. Some (row_then ps y.0, y.1)) ≡ rows_finished (front ++ ps ∷ []) read
-regroup_rows front ps (Some y) = ap (λ (more : Several). Some (more, y.1)) (sym (rows_push front ps y.0))
-regroup_rows front ps None = refl
-
-pub no_row_before : (read : Option (Several × List Spelled)) → rows_finished [] read ≡ read
-no_row_before (Some x) = refl
-no_row_before None = refl
-
-module _ (readers : Readers) (one : Reading Pieces) (word : List ℕ) (total : Option (Several × List Spelled))
-    (tokens : List Token) (i : ℕ) (front : List Pieces) where
-  pub row_goes_on : (ps : Pieces) (here after rest : List Spelled) → i < length tokens
-      → after_keyword word here ≡ Some after → one after ≡ Some (ps, rest)
-      → rows_finished front (again_at readers one word (suc (length (map spelled tokens)) - i) here) ≡ total
-      → rows_finished (front ++ ps ∷ []) (again_at readers one word (suc (length (map spelled tokens)) - (i + 1)) rest)
-      ≡ total
-  unfolding again_at
-  row_goes_on ps here after rest lt g h so_far =
-      let k = as_many tokens i lt in
-      let step : rows_finished front (again_at readers one word (suc (length (map spelled tokens)) - i) here)
-      ≡ rows_finished (front ++ ps ∷ []) (again_at readers one word (suc (length (map spelled tokens)) - (i + 1))
-      rest) =
-      rw (k, g, h) (regroup_rows front ps (again_at readers one word (suc (length (map spelled tokens)) - (i + 1))
-      rest)) in
-      sym step ∙ so_far
-
-  pub row_fails : (e : ReadError) (here after : List Spelled) → i < length tokens
-      → after_keyword word here ≡ Some after → Fails e (one after)
-      → rows_finished front (again_at readers one word (suc (length (map spelled tokens)) - i) here) ≡ total
-      → Fails e total
-  unfolding again_at
-  row_fails Memory here after lt g h so_far = tt
-  row_fails Unformed here after lt g h so_far =
-      let k = as_many tokens i lt in
-      let step : rows_finished front (again_at readers one word (suc (length (map spelled tokens)) - i) here) ≡ None =
-      rw (k, g, h) refl in
-      sym so_far ∙ step
-
-  pub rows_end : (here : List Spelled) → i ≤ length tokens → after_keyword word here ≡ None
-      → rows_finished front (again_at readers one word (suc (length (map spelled tokens)) - i) here) ≡ total
-      → total ≡ Some (pack_rows front, here)
-  unfolding again_at
-  rows_end here le g so_far =
-      let k = one_left tokens i le in
-      let step : rows_finished front (again_at readers one word (suc (length (map spelled tokens)) - i) here) ≡ Some (
-        pack_rows front,
-        here,
-      ) = rw (k, g) (ap (λ (more : Several). Some (more, here)) (rows_packed front)) in
-      sym so_far ∙ step
 
 -- ---- resources
 

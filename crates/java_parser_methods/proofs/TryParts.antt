@@ -1,31 +1,12 @@
 -- A `try` by its parts.
-use Rattle.std.proofs.Common.{◌≡◌, ℕ, ◌≤◌, true, List, [], ◌∷◌, length, map, Option, Some, None, option_map, refl}
-use Rattle.std.proofs.Common.{codes, arith}
-use Rattle.std.specs.Prelude.{is_some}
+use Rattle.std.proofs.Common.{◌≡◌, ℕ, List, Option, Some, None, refl, codes}
 use Rattle.java_tree.specs.declared.words.Spelled.{Spelled}
-use Rattle.java_tree.specs.declared.statements.CatchTree.{CatchTree}
-use Rattle.java_tree.specs.View.{catch_of, pack_rows}
 use Rattle.java_tree.specs.Trees.{Resources, Stmt, Stmts, Several, no_row, row_then}
 use Rattle.java_parser_grammar.specs.ExpressionReading.{Reading}
 use Rattle.java_parser_grammar.specs.Taking.{after_keyword}
 use Rattle.java_parser_grammar.specs.Readers.{Readers}
 use Rattle.java_parser_grammar.specs.StatementReading.{maybe_resources_at, pieces_at, row_at}
-use Rattle.java_parser_methods.specs.RowReading.{has_row, clauses_at, try_at}
-
--- ---- what is seen of a part that may be left out
-
-pub some_seen : {A B : Type 0} (f : A → B) (o : Option A) → is_some (option_map f o) ≡ is_some o
-some_seen f None = refl
-some_seen f (Some x) = refl
-
-pub seen_twice : {A B C : Type 0} (g : B → C) (f : A → B) (o : Option A) → option_map g (option_map f o) ≡ option_map
-    (λ x. g (f x)) o
-seen_twice g f None = refl
-seen_twice g f (Some x) = refl
-
-pub some_clause : (xs : List CatchTree) → 1 ≤ length xs → true ≡ has_row (pack_rows (map catch_of xs))
-some_clause [] le = absurd (omega arith)
-some_clause (x ∷ xs) le = refl
+use Rattle.java_parser_methods.specs.RowReading.{clauses_at, try_at}
 
 module _ (readers : Readers) (read : Reading Stmt) (block : Reading Stmts) (n : ℕ) (ts : List Spelled) where
   abbrev Same : Type 0

@@ -1,31 +1,28 @@
 -- No public contract rests on this: reading parts of statements that begin with a keyword of their own, by themselves.
-use Rattle.std.specs.Prelude.{ℕ, suc, Bool, true, false, ◌||◌, List, [], ◌∷◌, ◌++◌, length, Option, Some, None}
-use Rattle.std.specs.Prelude.{option_map, codes}
-use Rattle.std.specs.Prelude.{if◌then◌else◌, is_some}
+use Rattle.std.specs.Prelude.{ℕ, suc, Bool, true, false, List, [], ◌∷◌, ◌++◌, length, Option, Some, None, codes}
+use Rattle.std.specs.Prelude.{if◌then◌else◌}
 use Rattle.java_tree.specs.declared.words.Spelled.{Spelled}
 use Rattle.java_tree.specs.Formed.{has_some}
-use Rattle.java_tree.specs.Rows.{catch_row, Try}
-use Rattle.java_tree.specs.Trees.{Ty, Resource, Resources, Label, Default, Stmt, Stmts, pack_stmts, Labelled, Pieces}
-use Rattle.java_tree.specs.Trees.{Several, no_row, row_then, Groups, group_then}
-use Rattle.java_tree.specs.View.{Finally, Group}
+use Rattle.java_tree.specs.Rows.{catch_row}
+use Rattle.java_tree.specs.Trees.{Ty, Resource, Resources, Stmt, Stmts, pack_stmts, Labelled, Pieces, Several, no_row}
+use Rattle.java_tree.specs.Trees.{row_then, Groups, group_then}
+use Rattle.java_tree.specs.View.{Group}
 use Rattle.java_parser_grammar.specs.ExpressionReading.{Reading}
 use Rattle.java_parser_grammar.specs.Taking.{◌>>=◌, match_option, after_sign, after_keyword}
 use Rattle.java_parser_grammar.specs.Readers.{Readers}
 use Rattle.java_parser_grammar.specs.StatementReading.{body_at, labels_at, group_stmts_at, maybe_resources_at}
 use Rattle.java_parser_grammar.specs.StatementReading.{named_at, bars_at, again_at, pieces_at}
-
--- whether there is a row
-abbrev pub has_row : Several → Bool
-has_row no_row = false
-has_row (row_then ps more) = true
+use Rattle.java_parser_parts.specs.Parts.{try_with}
 
 -- these rows, and then more
 abbrev pub rows_onto : List Pieces → Several → Several
 rows_onto [] more = more
 rows_onto (ps ∷ front) more = row_then ps (rows_onto front more)
 
-abbrev pub rows_finished : List Pieces → Option (Several × List Spelled) → Option (Several × List Spelled)
-rows_finished front read = read >>= λ x. Some (rows_onto front x.0, x.1)
+-- these clauses in front of those that are read
+abbrev pub parts_finished : List Pieces → Option ((Several × Option Stmts) × List Spelled)
+    → Option ((Several × Option Stmts) × List Spelled)
+parts_finished front read = read >>= λ x. Some ((rows_onto front x.0.0, x.0.1), x.1)
 
 -- these groups, and then more
 abbrev pub groups_onto : List Group → Groups → Groups
@@ -56,22 +53,6 @@ abbrev pub resources_end : List Resource → Option ((List Resource × Bool) × 
 resources_end front read = do
   others ← read
   Some (the_resources (front ++ others.0.0) others.0.1, others.1)
-
--- `default :`
-abbrev pub default_at : Reading Label
-default_at ts = do
-  r ← after_keyword (codes "default") ts
-  c ← after_sign (codes ":") r
-  Some (Default, c)
-
--- a `try` of these parts, of which one that may be left out stands
-abbrev pub try_with : Option Resources → Stmts → Several → Option Stmts → Reading Stmt
-try_with resources ss clauses last ts =
-    if is_some resources || (has_row clauses || is_some last) then Some (
-      Try resources ss clauses (option_map Finally
-          last),
-      ts,
-    ) else None
 
 module _ (readers : Readers) where
   -- a statement behind this name and its `:`
@@ -106,11 +87,25 @@ module _ (readers : Readers) where
     ss ← block r
     Some (Some ss.0, ss.1))
 
+  -- the clauses and the last block
+  abbrev pub parts_at : Reading Stmt → Reading Stmts → ℕ → Reading (Several × Option Stmts)
+  parts_at read block n ts = do
+    clauses ← clauses_at read block n ts
+    last ← finally_at block clauses.1
+    Some ((clauses.0, last.0), last.1)
+
+  -- what is still read of them, where the last block was read or was not: fewer than m clauses
+  abbrev pub parts_left : Reading Pieces → Reading Stmts → (m : ℕ) → Option Stmts → Reading (Several × Option Stmts)
+  parts_left one block m (Some last) ts = Some ((no_row, Some last), ts)
+  parts_left one block m None ts = do
+    clauses ← again_at readers one (codes "catch") m ts
+    last ← finally_at block clauses.1
+    Some ((clauses.0, last.0), last.1)
+
   -- behind `try`
   unfoldable pub try_at : Reading Stmt → Reading Stmts → ℕ → Reading Stmt
   try_at read block n ts = do
     resources ← maybe_resources_at readers n ts
     ss ← block resources.1
-    clauses ← clauses_at read block n ss.1
-    last ← finally_at block clauses.1
-    try_with resources.0 ss.0 clauses.0 last.0 last.1
+    parts ← parts_at read block n ss.1
+    try_with resources.0 ss.0 parts.0.0 parts.0.1 parts.1

@@ -1,12 +1,11 @@
-//! Reading what stands in the parentheses of statements, and expressions that statements run (JLS 14.8, 14.9,
-//! 14.12, 14.14).
+//! Reading what stands in the parentheses of a `for`, and expressions that statements run (JLS 14.8, 14.14).
 ghost use Rattle.std.specs.Prelude.{◌++◌};
 ghost use Rattle.std.specs.Prelude.{◌≡◌, ◌<◌, ◌≤◌, ◌^◌, suc, Some, [], ◌∷◌, length, map, option_map, IfOk};
 ghost use Rattle.java_tree.specs.KeptPlaces.{kept, maybe_puts, each_puts, ty_places, expr_places, start_places};
 ghost use Rattle.java_tree.specs.Formed.{is_run};
 ghost use Rattle.java_tree.specs.View.{ty_of, expr_of, start_of};
 ghost use Rattle.java_parser_grammar.specs.Taking.{commas};
-ghost use Rattle.java_parser_grammar.specs.StatementReading.{condition_at, expr_until, run_at, runs_until};
+ghost use Rattle.java_parser_grammar.specs.StatementReading.{expr_until, run_at, runs_until};
 ghost use Rattle.java_parser_methods.specs.HeadReading.{counted_head_at, each_head_at, declared_head_at, typed_head_at};
 ghost use Rattle.java_parser_methods.specs.HeadReading.{run_head_at, head_at};
 ghost use Rattle.java_parser_methods.specs.HeadView.{head_of, head_places};
@@ -49,26 +48,6 @@ fn is_run(tree: &Expression) -> bool
         Expression::Prefix(operator, _) => is_step(operator.as_str()),
         _ => false,
     }
-}
-
-/// `( E )`.
-#[tactic(auto, unfolding(java_parser_grammar::specs::StatementReading::condition_at))]
-pub fn condition(
-    alloc: Global,
-    limit: u32,
-    tokens: &[Token],
-) -> Result<(Box<Expression>, &[Token]), ReadError>
-    requires few { length tokens.now < 2 ^ 32 }
-    requires room { suc (suc limit) < 2 ^ 32 }
-    ensures gives { Gives (λ x. (expr_of x.0.value, map spelled x.1.now)) result (condition_at method_readers limit
-        (map spelled tokens.now)) }
-    ensures places { IfOk result (λ x. expr_places x.0.value (kept x.1.now) ≡ kept tokens.now) }
-    ensures shorter { IfOk result (λ x. length x.1.now < length tokens.now) }
-{
-    let rest = sign(tokens, "(")?;
-    let (condition, rest) = read_expression(alloc, limit, 0, rest)?;
-    let rest = sign(rest, ")")?;
-    Ok((condition.tree, rest))
 }
 
 /// An expression, where the sign that ends it does not stand here.

@@ -1,7 +1,6 @@
 //! Methods of Java, read from their tokens.
 //!
-//! What stands behind `case` is read at the level of a conditional (JLS 14.11). `goes_on word s` says for `else`,
-//! `catch` and `finally` whether a word would belong to s where it stands behind it.
+//! `goes_on word s` says for `else`, `catch` and `finally` whether a word would belong to s where it stands behind it.
 #![tactic(auto)]
 
 pub mod annotations;

@@ -1,7 +1,6 @@
 //! Reading declarations and expressions with the `;` behind them (JLS 14.4, 14.8).
 ghost use Rattle.std.specs.Prelude.{◌≡◌, ◌<◌, ◌≤◌, ◌^◌, suc, length, map, IfOk};
 ghost use Rattle.java_tree.specs.KeptPlaces.{kept, stmt_places};
-ghost use Rattle.java_tree.specs.Formed.{is_body};
 ghost use Rattle.java_tree.specs.View.{stmt_of};
 ghost use Rattle.java_parser_grammar.specs.StatementReading.{local_at, run_line_at, simple_at};
 ghost use Rattle.java_parser_grammar.specs.JavaReaders.{method_readers};
@@ -17,13 +16,6 @@ use java_parser_types::error::ReadError;
 use java_parser_types::look::sign;
 use java_tree::Statement;
 use std::alloc::Global;
-
-/// Whether a statement is no declaration.
-pub fn is_body(statement: &Statement) -> bool
-    ensures { result ≡ is_body (stmt_of statement.now) }
-{
-    !matches!(statement, Statement::Local(_))
-}
 
 /// A declaration and its `;` (JLS 14.4).
 #[tactic(auto, unfolding(java_parser_grammar::specs::StatementReading::local_at))]

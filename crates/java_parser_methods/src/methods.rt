@@ -74,12 +74,14 @@ fn method(
     signature: Signature,
     body: Vec<Statement>,
     has_synchronized: bool,
+    count: u32,
 ) -> MethodTree
     ensures gives { method_of result ≡ method_with (map modifier_of modifiers) (result_of given)
         (signature_of signature) (pack_stmts (map stmt_of body.items)) }
     ensures places { method_marks result ≡ each_marks modifier_marks modifiers (some_onto (result_places given)
         (signature_marks signature (some_onto (each_puts (map stmt_places body.items) []) []))) }
     ensures synchronized { result.has_synchronized ≡ has_synchronized }
+    ensures tokens { result.tokens ≡ count }
 {
     MethodTree {
         modifiers,
@@ -89,11 +91,12 @@ fn method(
         throws: Items::from(signature.throws),
         body: Items::from(body),
         has_synchronized,
+        tokens: count,
     }
 }
 
 /// The method that these tokens are from its name on, behind these modifiers and what it gives; whether it has the word
-/// `synchronized` is known.
+/// `synchronized` is known, and the count of all its tokens.
 #[tactic(auto, unfolding(crate::specs::SignatureReading::whole_named_at))]
 fn method_from_name(
     alloc: Global,
@@ -101,6 +104,7 @@ fn method_from_name(
     modifiers: Items<ModifierTree>,
     given: ResultTree,
     has_synchronized: bool,
+    count: u32,
     tokens: &[Token],
 ) -> Result<MethodTree, ReadError>
     requires few { length tokens.now < 2 ^ 32 }
@@ -110,10 +114,11 @@ fn method_from_name(
     ensures places { IfOk result (λ tree. (start : Places) → Leads (λ rest. each_marks modifier_marks modifiers
         (some_onto (result_places given) rest)) start (kept tokens.now) → AreAt (method_marks tree) start) }
     ensures synchronized { IfOk result (λ tree. tree.has_synchronized ≡ has_synchronized) }
+    ensures tokens { IfOk result (λ tree. tree.tokens ≡ count) }
 {
     let (signature, rest) = read_signature(alloc, limit, tokens)?;
     let body = last_block(alloc, limit, rest)?;
-    Ok(method(modifiers, given, signature, body, has_synchronized))
+    Ok(method(modifiers, given, signature, body, has_synchronized, count))
 }
 
 /// The method that all these tokens are.
@@ -124,9 +129,19 @@ pub fn read_method(alloc: Global, limit: u32, tokens: &[Token]) -> Result<Method
     ensures gives { Gives method_of result (whole_method_at method_readers limit (map spelled tokens.now)) }
     ensures places { IfOk result (λ tree. AreAt (method_marks tree) (kept tokens.now)) }
     ensures synchronized { IfOk result (λ tree. tree.has_synchronized ≡ has_synchronized tokens.now) }
+    ensures tokens { IfOk result (λ tree. tree.tokens ≡ length tokens.now) }
 {
     let locks = has_synchronized(tokens);
+    let count = tokens.len() as u32;
     let (modifiers, rest) = modifiers(alloc, tokens)?;
     let (given, rest) = result_tree(alloc, limit, rest)?;
-    method_from_name(alloc, limit, Items::from(modifiers), given, locks, rest)
+    method_from_name(
+        alloc,
+        limit,
+        Items::from(modifiers),
+        given,
+        locks,
+        count,
+        rest,
+    )
 }

@@ -1,42 +1,23 @@
 //! Statements with statements or expressions in them, made of what was read (JLS 14).
-ghost use Rattle.std.specs.Prelude.{◌≡◌, ◌≤◌, ◌∷◌, ◌||◌, is_some, length, map, option_map, IfOk};
-ghost use Rattle.java_tree.specs.Trees.{If, IfElse, Block, Local, Run, Labelled, Empty, pack_stmts};
-ghost use Rattle.java_tree.specs.Rows.{While, Do, Sync, Switch, Try};
+ghost use Rattle.std.specs.Prelude.{◌≡◌, ◌≤◌, ◌∷◌, length, map, option_map, IfOk};
+ghost use Rattle.java_tree.specs.Trees.{If, IfElse, Block, Local, Run, Empty, pack_stmts};
+ghost use Rattle.java_tree.specs.Rows.{While, Sync, Switch};
 ghost use Rattle.java_tree.specs.KeptPlaces.{Places, kept, maybe_puts, each_puts, expr_places, stmt_places};
-ghost use Rattle.java_tree.specs.KeptPlaces.{locals_places, resources_places, catch_places, group_places};
-ghost use Rattle.java_tree.specs.View.{expr_of, locals_of, stmt_of, resources_of, catch_of, group_of, Finally};
-ghost use Rattle.java_tree.specs.View.{pack_rows, pack_groups};
+ghost use Rattle.java_tree.specs.KeptPlaces.{locals_places, group_places};
+ghost use Rattle.java_tree.specs.View.{expr_of, locals_of, stmt_of, group_of, pack_groups};
 ghost use Rattle.java_parser_expressions.specs.Closings.{as_read};
 ghost use Rattle.java_parser_methods.specs.HeadReading.{for_of};
 ghost use Rattle.java_parser_methods.specs.HeadView.{head_of, head_places};
-ghost use Rattle.java_parser_methods.specs.RowReading.{has_row, try_with};
 ghost use Rattle.java_parser_types.specs.Tokens.{spelled};
 ghost use Rattle.java_parser_types.specs.ReadAnswer.{Gives};
 
 use super::heads::ForHead;
 use java_lexer::Token;
+use java_parser_parts::nodes::boxed;
 use java_parser_types::error::ReadError;
-use java_parser_types::look::ident;
-use java_tree::{
-    Apart, CatchTree, Expression, GroupTree, LocalsTree, ResourcesTree, Statement, TryTree,
-};
+use java_tree::{Apart, Expression, GroupTree, LocalsTree, Statement};
 use racer_base::Place;
 use std::alloc::Global;
-
-/// This statement in memory of its own, and the tokens behind it.
-pub fn boxed(
-    alloc: Global,
-    statement: Statement,
-    tokens: &[Token],
-) -> Result<(Box<Statement>, &[Token]), ReadError>
-    ensures gives { Gives (λ x. (stmt_of x.0.value, map spelled x.1.now)) result (as_read (stmt_of statement)
-        (map spelled tokens.now)) }
-    ensures places { IfOk result (λ x. stmt_places x.0.value (kept x.1.now) ≡ stmt_places statement
-        (kept tokens.now)) }
-    ensures shorter { IfOk result (λ x. length x.1.now ≤ length tokens.now) }
-{
-    Ok((Box::new(alloc, statement)?, tokens))
-}
 
 /// JLS 14.6.
 pub fn empty(alloc: Global, tokens: &[Token]) -> Result<(Box<Statement>, &[Token]), ReadError>
@@ -167,22 +148,6 @@ pub fn repeated(
     )
 }
 
-/// JLS 14.13.
-pub fn repeated_after(
-    alloc: Global,
-    body: Box<Statement>,
-    condition: Box<Expression>,
-    tokens: &[Token],
-) -> Result<(Box<Statement>, &[Token]), ReadError>
-    ensures gives { Gives (λ x. (stmt_of x.0.value, map spelled x.1.now)) result (as_read
-        (Do (stmt_of body.value) (expr_of condition.value)) (map spelled tokens.now)) }
-    ensures places { IfOk result (λ x. stmt_places x.0.value (kept x.1.now) ≡
-        stmt_places body.value (expr_places condition.value (kept tokens.now))) }
-    ensures shorter { IfOk result (λ x. length x.1.now ≤ length tokens.now) }
-{
-    boxed(alloc, Statement::Do(body, Apart::from(condition)), tokens)
-}
-
 /// At this place (JLS 14.19).
 pub fn locked(
     alloc: Global,
@@ -204,23 +169,6 @@ pub fn locked(
     )
 }
 
-/// Behind a name with its `:` (JLS 14.7).
-pub fn labelled<'a>(
-    alloc: Global,
-    token: &Token,
-    body: Box<Statement>,
-    tokens: &'a [Token],
-) -> Result<(Box<Statement>, &'a [Token]), ReadError>
-    ensures gives { Gives (λ x. (stmt_of x.0.value, map spelled x.1.now)) result (as_read
-        (Labelled token.now.text (stmt_of body.value)) (map spelled tokens.now)) }
-    ensures places { IfOk result (λ x. stmt_places x.0.value (kept x.1.now) ≡
-        token.now.place ∷ stmt_places body.value (kept tokens.now)) }
-    ensures shorter { IfOk result (λ x. length x.1.now ≤ length tokens.now) }
-{
-    let name = Apart::new(alloc, ident(alloc, token)?)?;
-    boxed(alloc, Statement::Labelled(name, body), tokens)
-}
-
 /// JLS 14.11.
 pub fn switched(
     alloc: Global,
@@ -235,79 +183,6 @@ pub fn switched(
     ensures shorter { IfOk result (λ x. length x.1.now ≤ length tokens.now) }
 {
     boxed(alloc, Statement::Switch(Apart::from(value), groups), tokens)
-}
-
-/// The `try` of these parts (JLS 14.20).
-fn trying(
-    alloc: Global,
-    resources: Option<Apart<ResourcesTree>>,
-    body: Vec<Statement>,
-    clauses: Vec<CatchTree>,
-    finally: Option<Vec<Statement>>,
-    tokens: &[Token],
-) -> Result<(Box<Statement>, &[Token]), ReadError>
-    ensures gives { Gives (λ x. (stmt_of x.0.value, map spelled x.1.now)) result (as_read
-        (Try (option_map resources_of resources) (pack_stmts (map stmt_of body.items)) (pack_rows (map catch_of
-        clauses.items)) (option_map (λ ss. Finally (pack_stmts (map stmt_of ss.items))) finally))
-        (map spelled tokens.now)) }
-    ensures places { IfOk result (λ x. stmt_places x.0.value (kept x.1.now) ≡ maybe_puts
-        (option_map resources_places resources) (each_puts (map stmt_places body.items) (each_puts (map catch_places
-        clauses.items) (maybe_puts (option_map (λ ss. each_puts (map stmt_places ss.items)) finally)
-        (kept tokens.now))))) }
-    ensures shorter { IfOk result (λ x. length x.1.now ≤ length tokens.now) }
-{
-    let tree = TryTree {
-        resources,
-        body,
-        clauses,
-        finally,
-    };
-    boxed(alloc, Statement::Try(Box::new(alloc, tree)?), tokens)
-}
-
-fn has_clause(clauses: &[CatchTree]) -> bool
-    ensures { result ≡ has_row (pack_rows (map catch_of clauses.now)) }
-{
-    match clauses {
-        [_, ..] => true,
-        [] => false,
-    }
-}
-
-/// Whether one stands of the parts that may be left out.
-fn stands(
-    resources: &Option<Apart<ResourcesTree>>,
-    clauses: &[CatchTree],
-    finally: &Option<Vec<Statement>>,
-) -> bool
-    ensures { result ≡ (is_some resources.now || (has_row (pack_rows (map catch_of clauses.now))
-        || is_some finally.now)) }
-{
-    resources.is_some() || has_clause(clauses) || finally.is_some()
-}
-
-/// The same, where one stands of the parts that may be left out.
-pub fn tried(
-    alloc: Global,
-    resources: Option<Apart<ResourcesTree>>,
-    body: Vec<Statement>,
-    clauses: Vec<CatchTree>,
-    finally: Option<Vec<Statement>>,
-    tokens: &[Token],
-) -> Result<(Box<Statement>, &[Token]), ReadError>
-    ensures gives { Gives (λ x. (stmt_of x.0.value, map spelled x.1.now)) result (try_with
-        (option_map resources_of resources) (pack_stmts (map stmt_of body.items)) (pack_rows (map catch_of
-        clauses.items)) (option_map (λ ss. pack_stmts (map stmt_of ss.items)) finally) (map spelled tokens.now)) }
-    ensures places { IfOk result (λ x. stmt_places x.0.value (kept x.1.now) ≡ maybe_puts
-        (option_map resources_places resources) (each_puts (map stmt_places body.items) (each_puts (map catch_places
-        clauses.items) (maybe_puts (option_map (λ ss. each_puts (map stmt_places ss.items)) finally)
-        (kept tokens.now))))) }
-    ensures shorter { IfOk result (λ x. length x.1.now ≤ length tokens.now) }
-{
-    if !stands(&resources, clauses.as_slice(), &finally) {
-        return Err(ReadError::Unformed);
-    }
-    trying(alloc, resources, body, clauses, finally, tokens)
 }
 
 /// The `for` of this head and body.

@@ -15,19 +15,18 @@ ghost use Rattle.java_parser_grammar.specs.JavaReaders.{method_readers};
 ghost use Rattle.java_parser_types.specs.Tokens.{spelled};
 ghost use Rattle.java_parser_types.specs.ReadAnswer.{Gives};
 
-use super::heads::{condition, head};
-use super::lines::{is_body, simple};
-use super::nodes::{
-    block, empty, headed, labelled, locked, repeated, repeated_after, with_else, without_else,
-};
+use super::heads::head;
+use super::lines::simple;
+use super::nodes::{block, empty, headed, locked, repeated, with_else, without_else};
 use super::simple_rows::{asserted, broken, continued, returned, thrown};
 use super::switches::switch_statement;
 use super::tries::try_statement;
 use java_lexer::Token;
 use java_parser_expressions::nested::push_tree;
-use java_parser_lookahead::lookahead::{
-    RowWord, StatementLead, behind_else, keyword, statement_lead,
-};
+use java_parser_lookahead::lookahead::{RowWord, StatementLead, behind_else, statement_lead};
+use java_parser_parts::conditions::condition;
+use java_parser_parts::ends::do_end;
+use java_parser_parts::nodes::{is_body, labelled};
 use java_parser_types::error::ReadError;
 use java_parser_types::look::{after_sign, sign};
 use java_tree::{Expression, Statement};
@@ -255,7 +254,6 @@ fn row(
 
 /// Behind `do` (JLS 14.13).
 #[cycle(statements)]
-#[tactic(auto, unfolding(java_parser_grammar::specs::StatementReading::pieces_at))]
 fn do_statement(
     alloc: Global,
     limit: u32,
@@ -270,10 +268,7 @@ fn do_statement(
     ensures shorter { IfOk result (λ x. length x.1.now ≤ length tokens.now) }
 {
     let (body, rest) = body(alloc, limit, tokens)?;
-    let rest = keyword(rest, "while")?;
-    let (condition, rest) = condition(alloc, limit, rest)?;
-    let rest = sign(rest, ";")?;
-    repeated_after(alloc, body, condition, rest)
+    do_end(alloc, limit, body, rest)
 }
 
 /// Behind `for` (JLS 14.14).
@@ -332,6 +327,6 @@ fn label_statement<'a>(
     ensures places { IfOk result (λ x. stmt_places x.0.value (kept x.1.now) ≡ name.now.place ∷ kept tokens.now) }
     ensures shorter { IfOk result (λ x. length x.1.now ≤ length tokens.now) }
 {
-    let (inside, rest) = body(alloc, limit, tokens)?;
+    let (inside, rest) = read_statement(alloc, limit, tokens)?;
     labelled(alloc, name, inside, rest)
 }

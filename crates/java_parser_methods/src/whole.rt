@@ -25,6 +25,7 @@ pub fn read_method(alloc: Global, limit: u32, tokens: &[Token]) -> Result<Method
     ensures spelled { IfOk result (λ tree. spelling (method_of tree) ≡ map spelled tokens.now) }
     ensures places { IfOk result (λ tree. AreAt (method_marks tree) (kept tokens.now)) }
     ensures synchronized { IfOk result (λ tree. tree.has_synchronized ≡ has_synchronized tokens.now) }
+    ensures tokens { IfOk result (λ tree. tree.tokens ≡ length tokens.now) }
     ensures small { IfOk result (λ tree. method_nesting (method_of tree) ≤ limit) }
     ensures only { IfOk result (λ tree. (other : Method) → FormedMethod other
         → spelling other ≡ map spelled tokens.now → other ≡ method_of tree) }

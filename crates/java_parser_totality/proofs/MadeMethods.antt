@@ -437,12 +437,12 @@ same-method m p q r s t u =
 
 pub method-made : (ts : List Token) (m : Method) → length ts < most → FormedMethod m → plain_all ts ≡ spelling m
     → (tree : MethodTree) × (method_of tree ≡ m) × AreAt (method_marks tree) (kept ts)
-    × (tree.has_synchronized ≡ has_synchronized ts)
+    × (tree.has_synchronized ≡ has_synchronized ts) × (tree.tokens ≡ length ts)
 method-made ts m few f e = first ((a_head m f).made ts (block_onto m.body []) few e) where
   second : (h : Made AreAt (a_head m f).part ts (block_onto m.body []))
       → Made Same (a_block m.body f.4).part h.behind []
       → (tree : MethodTree) × (method_of tree ≡ m) × AreAt (method_marks tree) (kept ts)
-      × (tree.has_synchronized ≡ has_synchronized ts)
+      × (tree.has_synchronized ≡ has_synchronized ts) × (tree.tokens ≡ length ts)
   second h b =
       let x = h.tree in
       let y = b.tree.1.0 in
@@ -457,13 +457,15 @@ method-made ts m few f e = first ((a_head m f).made ts (block_onto m.body []) fe
           throws = x.1.1.1.1.1.1;
           body = y;
           has_synchronized = has_synchronized ts;
+          tokens = length ts;
         },
         same-method m h.is.0 h.is.1.0 h.is.1.1.0 h.is.1.1.1.1.0 h.is.1.1.1.1.1.1 b.is.1.0,
         h.fits (some_onto body []) (subst (AreAt (some_onto body [])) placed (all-at body)),
+        refl,
         refl,
       )
 
   first : Made AreAt (a_head m f).part ts (block_onto m.body [])
       → (tree : MethodTree) × (method_of tree ≡ m) × AreAt (method_marks tree) (kept ts)
-      × (tree.has_synchronized ≡ has_synchronized ts)
+      × (tree.has_synchronized ≡ has_synchronized ts) × (tree.tokens ≡ length ts)
   first h = second h ((a_block m.body f.4).made h.behind [] (omega (arith, few, h.shorter)) h.spelled)

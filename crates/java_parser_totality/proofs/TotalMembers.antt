@@ -139,10 +139,10 @@ module _ (class : List ℕ) (m : List Token) (few : length m < most) (front : Li
   abbrev Tree : Method → Type 0
   Tree t =
       (tree : MethodTree) × (method_of tree ≡ t) × AreAt (method_marks tree) (kept m)
-      × (tree.has_synchronized ≡ has_synchronized m)
+      × (tree.has_synchronized ≡ has_synchronized m) × (tree.tokens ≡ length m)
 
   inside-class : (t : Method) → IsMethod class m t → Tree t → AMember class m (MethodForm front name parentheses)
-  inside-class t is h = (member.Method h.0, (subst (IsMethod class m) (sym h.1) is, h.2, h.3))
+  inside-class t is h = (member.Method h.0, (subst (IsMethod class m) (sym h.1) is, h.2, h.3, h.4))
 
   method-read : (t : Method) → method_at method_readers MAX_NESTING (plain_all m) ≡ Some t
       → Decided (Constructed class t) → AMember class m (MethodForm front name parentheses)

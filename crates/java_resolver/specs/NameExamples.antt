@@ -1,5 +1,5 @@
 -- No public contract rests on this: small classes, fields, methods and scopes for worked rows.
-use Rattle.std.specs.Prelude.{ℕ, Bool, true, false, List, [], codes, replicate, map}
+use Rattle.std.specs.Prelude.{ℕ, Bool, true, false, List, [], codes, length, replicate, map}
 use Rattle.racer_base.specs.declared.ids.ClassId.{ClassId}
 use Rattle.racer_base.specs.declared.ids.Kind.TheVariants as kind
 use Rattle.racer_base.specs.declared.ids.Place.{Place}
@@ -15,7 +15,9 @@ use Rattle.java_tree.specs.declared.methods.FieldVariable.{FieldVariable}
 use Rattle.java_tree.specs.declared.methods.MethodTree.{MethodTree}
 use Rattle.java_tree.specs.declared.methods.ParameterTree.{ParameterTree}
 use Rattle.java_tree.specs.declared.methods.ResultTree.{ResultTree}
+use Rattle.java_tree.specs.Spelling.{spelling}
 use Rattle.java_tree.specs.Trees.{Ty, Typed, Named, no_part, part_then, Part}
+use Rattle.java_tree.specs.View.{method_of}
 use Rattle.java_tree.specs.declared.unit.Unit.{Unit}
 use Rattle.java_tree.specs.declared.unit.ClassTree.{ClassTree}
 use Rattle.java_tree.specs.declared.unit.Member.{Member}
@@ -66,9 +68,9 @@ ints modifiers variables = record { modifiers = words modifiers; kind = int 0; v
 abbrev pub absent : List ℕ → ℕ → FieldVariable
 absent name column = record { name = ident name column; initialiser = Absent }
 
--- a method or constructor with an empty body: `synchronized` stands in it where it is one of the modifiers
-abbrev pub method_tree : List ModifierTree → ResultTree → List ℕ → List ParameterTree → MethodTree
-method_tree modifiers result name parameters =
+-- with this count of tokens
+abbrev counted_tree : List ModifierTree → ResultTree → List ℕ → List ParameterTree → ℕ → MethodTree
+counted_tree modifiers result name parameters count =
     record {
       modifiers = modifiers;
       result = result;
@@ -77,7 +79,14 @@ method_tree modifiers result name parameters =
       throws = [];
       body = [];
       has_synchronized = has_word (codes "synchronized") modifiers;
+      tokens = count;
     }
+
+-- a method or constructor with an empty body: `synchronized` stands in it where it is one of the modifiers
+abbrev pub method_tree : List ModifierTree → ResultTree → List ℕ → List ParameterTree → MethodTree
+method_tree modifiers result name parameters =
+    counted_tree modifiers result name parameters
+    (length (spelling (method_of (counted_tree modifiers result name parameters 0))))
 
 abbrev pub parameter : TypeTree → ParameterTree
 parameter kind = record { is_final = false; annotations = []; kind = kind; name = ident (codes "p") 12 }

@@ -48,6 +48,7 @@ pub record SameField (f g : FieldTree) : Type 0 where
 abbrev pub SameMethod : MethodTree → MethodTree → Type 0
 SameMethod m n =
     (method_of m ≡ method_of n) × (method_marks m ≡ method_marks n) × (m.has_synchronized ≡ n.has_synchronized)
+    × (m.tokens ≡ n.tokens)
 
 abbrev pub SameResult : HeadResult → HeadResult → Type 0
 SameResult result.Void result.Void = Unit {0}

@@ -37,8 +37,8 @@ pub struct ParameterTree {
     pub name: Ident,
 }
 
-/// A method or a constructor with its body. Whether `synchronized` stands among its tokens is kept by who reads them,
-/// and is no part of what trees are compared by.
+/// A method or a constructor with its body. Whether `synchronized` stands among its tokens, and how many these are, is
+/// kept by who reads them, and is no part of what trees are compared by.
 #[derive(Drop)]
 pub struct MethodTree {
     pub modifiers: Items<ModifierTree>,
@@ -48,6 +48,7 @@ pub struct MethodTree {
     pub throws: Items<TypeTree>,
     pub body: Items<Statement>,
     pub has_synchronized: bool,
+    pub tokens: u32,
 }
 
 /// A declaration of fields.

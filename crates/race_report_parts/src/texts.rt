@@ -206,6 +206,7 @@ pub(crate) fn reason_text(reason: Reason) -> &'static str
         Reason::Outside => "outside",
         Reason::Parameters => "parameters",
         Reason::Locals => "locals",
+        Reason::Operations => "operations",
         Reason::Recursive => "recursive",
     }
 }

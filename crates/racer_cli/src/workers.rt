@@ -114,7 +114,6 @@ const STOCK_JAVA: &[u8] = b"\
 const STOCK_REPORT: &[u8] = b"\
   racer report 1\n\
   files 1 classes 1 methods 8\n\
-  not analysed Stock.state/1 Stock.java:54:17 outside\n\
   warning Stock.add/2 write this.changes locked\n\
   \x20at Stock.java:25:5\n\
   \x20at Stock.java:29:5\n\
@@ -167,6 +166,8 @@ const STOCK_HISTORY: &[u8] = b"\
   publish 0 Stock.getChanges/0\n\
   take 0 Stock.close/0\n\
   publish 0 Stock.close/0\n\
+  take 0 Stock.state/1\n\
+  publish 0 Stock.state/1\n\
   leave 0\n";
 
 /// The lines of a text that say what this worker took and published, in order.

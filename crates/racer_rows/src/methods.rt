@@ -109,6 +109,7 @@ fn reason_word(reason: Reason) -> &'static str {
         Reason::Outside => " Outside",
         Reason::Parameters => " Parameters",
         Reason::Locals => " Locals",
+        Reason::Operations => " Operations",
         Reason::Recursive => " Recursive",
     }
 }

@@ -1,11 +1,12 @@
 //! The code of statements (JLS 14).
 ghost use Rattle.std.specs.Prelude.{◌≡◌, [], ◌∷◌, Some, codes, map};
 ghost use Rattle.racer_base.specs.declared.ids.Kind.TheVariants.{Plain, Other};
+ghost use Rattle.core_code.specs.declared.code.Op.TheVariants.{Throw};
 ghost use Rattle.core_lowering_rules.specs.Context.{Itself, Nothing, Value};
 ghost use Rattle.core_lowering_laws.specs.Examples.{lowered, lowered_in, in_object, push, push_this, push_k, push_a};
 ghost use Rattle.core_lowering_laws.specs.Examples.{push_o};
 ghost use Rattle.core_lowering_laws.specs.Examples.{prim, null, dup, pop, return_top, operator, outside, set, get};
-ghost use Rattle.core_lowering_laws.specs.Examples.{put, call, choice, repeated, held};
+ghost use Rattle.core_lowering_laws.specs.Examples.{put, call, choice, repeated, held, step_at_word};
 
 /// Locals (JLS 14.4): each declarator is a variable of its own.
 pub fn variables()
@@ -73,4 +74,20 @@ pub fn returns()
         (Itself ∷ Nothing ∷ Value Plain ∷ Value Other ∷ [])
         ≡ Some (push_o ∷ pop ∷ push_this ∷ return_top ∷ []) ∷ Some (push_o ∷ pop ∷ prim ∷ return_top ∷ [])
         ∷ Some (push_o ∷ return_top ∷ []) ∷ Some (push_o ∷ return_top ∷ []) ∷ [] }
+{}
+
+/// `throw` (JLS 14.18) and `assert` (JLS 14.10).
+pub fn throws()
+    ensures thrown { lowered (codes "throw a ;") ≡ Some (push_a ∷ pop ∷ step_at_word Throw ∷ []) }
+    ensures asserted { lowered (codes "assert k : a ;") ≡ Some (choice (push_k ∷ pop ∷ []) [] ∷ []) }
+{}
+
+/// `do` (JLS 14.13), and a loop that only `break` leaves (JLS 14.15): the part before it stands behind the loop again.
+pub fn jumps()
+    ensures at_least_once { lowered (codes "do n -- ; while ( k ) ;")
+        ≡ Some (push_this ∷ dup ∷ get 0 ∷ operator 1 ∷ put 0 ∷ pop ∷ push_k ∷ pop
+        ∷ repeated (push_this ∷ dup ∷ get 0 ∷ operator 1 ∷ put 0 ∷ pop ∷ push_k ∷ pop ∷ []) ∷ []) }
+    ensures left { lowered (codes "while ( true ) { if ( k ) break ; g ( a ) ; }")
+        ≡ Some (prim ∷ pop ∷ repeated (push_k ∷ pop ∷ push_a ∷ call 2 1 ∷ pop ∷ prim ∷ pop ∷ [])
+        ∷ push_k ∷ pop ∷ []) }
 {}

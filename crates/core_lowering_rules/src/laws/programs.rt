@@ -104,10 +104,10 @@ pub fn conditions_of_units()
 {}
 
 /// What every program of units keeps, whichever methods are taken for recursive. Whatever the units, the code of all
-/// methods is kinded, pops no empty stack and calls rightly, that of an analysed method ends by a return alone,
-/// analysed methods differ, and have few parameters. Numbers are in range where the places of the units are in the
-/// files, names are right where those of the units are identifiers, and classes and fields differ where the units are
-/// not refused.
+/// methods is kinded, pops no empty stack and calls rightly, that of an analysed method ends by returns and throws
+/// alone, analysed methods differ, and have few parameters. Numbers are in range where the places of the units are in
+/// the files, names are right where those of the units are identifiers, and classes and fields differ where the units
+/// are not refused.
 pub fn facts_of_programs()
     ensures kinded { (files : List (List ℕ)) (units : List Unit) (is_recursive : MethodId → Bool) →
         IsTrue (are_kinded (program_of files units is_recursive)) }

@@ -1,15 +1,14 @@
-use Rattle.std.proofs.Common.{◌≡◌, ℕ, true, false, codes, length, suc, ◌-◌, ◌++◌, ◌∷◌, [], map, refl, sym, ap}
+mod Rows
+use Rattle.std.proofs.Common.{◌≡◌, ℕ, true, false, length, suc, ◌+◌, ◌-◌, ◌++◌, ◌∷◌, [], map, refl, sym, ap}
 use Rattle.std.proofs.Common.{◌∙◌, arith}
 use Rattle.std.proofs.lemmas.Result.{err_from_is_err_and}
 use Rattle.std.proofs.lemmas.List.{map_push}
-use Rattle.java_tree.specs.KeptPlaces.{kept, expr_places, stmt_places, group_places, catch_places}
+use Rattle.java_tree.specs.KeptPlaces.{kept, expr_places, stmt_places}
 use Rattle.java_parser_types.proofs.PutPlaces.{one_put}
-use Rattle.java_tree.specs.View.{stmt_of, group_of, catch_of}
+use Rattle.java_tree.specs.View.{stmt_of}
 use Rattle.java_parser_grammar.specs.StatementReading.{braces_at, by_lead, stmt_at, block_at, body_at, condition_at}
-use Rattle.java_parser_grammar.specs.StatementReading.{if_at, row_at, pieces_at, group_stmts_at, groups_at}
+use Rattle.java_parser_grammar.specs.StatementReading.{if_at}
 use Rattle.java_parser_grammar.specs.Lookahead.{StatementLead, statement_lead}
-use Rattle.java_tree.specs.Rows.{catch_row}
-use Rattle.java_parser_methods.specs.RowReading.{clauses_at}
 use Rattle.java_parser_grammar.specs.JavaReaders.{method_readers}
 use Rattle.java_parser_types.specs.Tokens.{spelled}
 use Rattle.java_parser_types.specs.Endings.{block_end}
@@ -22,18 +21,8 @@ use Rattle.java_parser_methods.proofs.StatementLoops.{statements_run_out, stmt_w
 use Rattle.java_tree.specs.Formed.{is_body}
 use Rattle.java_parser_methods.specs.HeadView.{head_places}
 use Rattle.java_parser_methods.proofs.PassedOn.{puts_back, within_back, tested_no, tested_yes}
-use Rattle.java_parser_lookahead.specs.StatementLeadView.{row_text}
-use Rattle.java_parser_methods.proofs.RowLoops.{grouped_goes_on, grouped_fails, grouped_ends, grouped_runs_out}
-use Rattle.java_parser_methods.proofs.RowLoops.{group_goes_on, group_fails, groups_end, groups_run_out, row_goes_on}
-use Rattle.java_parser_methods.proofs.RowLoops.{row_fails, rows_end, no_keyword, no_group_before}
-use Rattle.java_parser_methods.proofs.RowLoops.{no_row_before}
-use Rattle.java_parser_methods.proofs.TryParts.{try_by_parts}
 use Rattle.java_parser_methods.proofs.+statements.Goals as goal
-use Rattle.java_parser_methods.proofs.+statements.Goals.{switches::group_statements-else-loop-test}
-use Rattle.java_parser_methods.proofs.+statements.Goals.{switches::group_statements-then-loop-test+then-ends_group}
-use Rattle.java_parser_methods.proofs.+statements.Goals.{tries::clauses-else-loop-test}
-use Rattle.java_parser_methods.proofs.+statements.Goals.{tries::clauses-then-loop-test+in_default}
-use Rattle.java_parser_methods.proofs.AnnotationLoops.{alone}
+use Rattle.java_parser_methods.proofs.+statements.Answers.Rows as rows
 
 pub statements::braces-returns-in-Some-clause-gives : goal.statements::braces-returns-in-Some-clause-gives
 statements::braces-returns-in-Some-clause-gives t c =
@@ -304,192 +293,104 @@ statements::by_lead-returns-in-ForWord-clause-shorter t c =
     within_back c.for_statement.result (λ x. length x.1.now) _ _ (omega (arith, c.in-ForWord.ensures.shorter))
     c.for_statement.ensures.shorter
 
--- ---- groups and clauses
+-- ---- groups, clauses and last blocks
 
 pub statements::row-returns-in-Try-clause-gives : goal.statements::row-returns-in-Try-clause-gives
-statements::row-returns-in-Try-clause-gives t c =
-    let ts = map spelled c.args.tokens.now in
-    let read = stmt_at method_readers c.args.limit in
-    let block = block_at method_readers c.args.limit in
-    ends_give _ c.try_statement.result (row_at method_readers read block c.args.limit (row_text c.args.word) ts) _
-    (ap (λ w. row_at method_readers read block c.args.limit (row_text w) ts) c.in-Try.is ∙ try_by_parts method_readers
-    read block c.args.limit ts) c.try_statement.ensures.gives
+statements::row-returns-in-Try-clause-gives = rows.statements::row-returns-in-Try-clause-gives
 
 pub switches::group_statements-returns-in_err-next-clause-gives :
     goal.switches::group_statements-returns-in_err-next-clause-gives
-switches::group_statements-returns-in_err-next-clause-gives t c =
-    let read = stmt_at method_readers c.args.limit in
-    let total = group_stmts_at method_readers read (suc (length (map spelled c.args.tokens.now))) (map spelled
-    c.args.tokens.now) in
-    let p = err_from_is_err_and c.from_residual.result c.from_residual.ensures.1 in
-    rw (p.1, p.2) (grouped_fails method_readers read total c.args.tokens.now c.loop.counter (map stmt_of
-    c.loop.items.items) c.in_err-next.field-0.0 (map spelled c.loop.rest.now) c.loop-test.true (sym c.ends_group.ensures
-    ∙ c.if-ends_group.false) c.in_err-next.ensures.gives c.loop.invariant.gives)
+switches::group_statements-returns-in_err-next-clause-gives =
+    rows.switches::group_statements-returns-in_err-next-clause-gives
 
 pub switches::group_statements-loop-preserved : goal.switches::group_statements-loop-preserved
-switches::group_statements-loop-preserved t c =
-    let n = c.in_ok-next.next.value in
-    let e : map stmt_of c.push_tree.new.trees.items ≡ map stmt_of c.loop.items.items ++ stmt_of n ∷ [] =
-    rw c.in_ok-push_tree.ensures.items (map_push _ c.loop.items.items n) in
-    let read = stmt_at method_readers c.args.limit in
-    let total = group_stmts_at method_readers read (suc (length (map spelled c.args.tokens.now))) (map spelled
-    c.args.tokens.now) in
-    record {
-      gives = rw e (grouped_goes_on method_readers read total c.args.tokens.now c.loop.counter (map stmt_of
-          c.loop.items.items) (stmt_of n) (map spelled c.loop.rest.now) (map spelled c.in_ok-next.after.now)
-          c.loop-test.true (sym c.ends_group.ensures ∙ c.if-ends_group.false) c.in_ok-next.ensures.gives
-          c.loop.invariant.gives);
-      places = rw c.in_ok-push_tree.ensures.items (one_put stmt_places c.loop.items.items n (kept c.loop.rest.now)
-          (kept c.in_ok-next.after.now) _ c.in_ok-next.ensures.places c.loop.invariant.places);
-      few = omega (arith, c.loop-test.true);
-      shorter = omega (arith, c.in_ok-next.ensures.shorter, c.loop.invariant.shorter);
-    }
+switches::group_statements-loop-preserved = rows.switches::group_statements-loop-preserved
 
 pub switches::group_statements-loop-init : goal.switches::group_statements-loop-init
-switches::group_statements-loop-init t c =
-    let all : suc (length (map spelled c.args.tokens.now)) - 0 ≡ suc (length (map spelled c.args.tokens.now)) =
-    omega arith in
-    record {
-      gives = rw (c.new-items.ensures.items, all) (alone _);
-      places = rw c.new-items.ensures.items refl;
-      few = omega arith;
-      shorter = omega arith;
-    }
+switches::group_statements-loop-init = rows.switches::group_statements-loop-init
 
 pub switches::group_statements-returns-then-not-ends_group-clause-gives :
     goal.switches::group_statements-returns-then-not-ends_group-clause-gives
-switches::group_statements-returns-then-not-ends_group-clause-gives t c =
-    let read = stmt_at method_readers c.args.limit in
-    let total = group_stmts_at method_readers read (suc (length (map spelled c.args.tokens.now))) (map spelled
-    c.args.tokens.now) in
-    elim c.loop-test.branch [
-      | switches::group_statements-else-loop-test w ↦ grouped_runs_out method_readers read total c.args.tokens.now
-          c.loop.counter (map stmt_of c.loop.items.items) (map spelled c.loop.rest.now) w.loop-test.false
-          c.loop.invariant.few (sym c.ends_group-2.ensures ∙ c.if-not-ends_group.true) c.loop.invariant.gives
-      | switches::group_statements-then-loop-test+then-ends_group w ↦
-          let both : true ≡ false =
-          sym w.if-ends_group.true ∙ (w.ends_group.ensures ∙ (sym c.ends_group-2.ensures ∙ c.if-not-ends_group.true)) in
-          absurd cc
-    ]
+switches::group_statements-returns-then-not-ends_group-clause-gives =
+    rows.switches::group_statements-returns-then-not-ends_group-clause-gives
 
 pub switches::group_statements-returns-clause-gives : goal.switches::group_statements-returns-clause-gives
-switches::group_statements-returns-clause-gives t c =
-    let read = stmt_at method_readers c.args.limit in
-    let total = group_stmts_at method_readers read (suc (length (map spelled c.args.tokens.now))) (map spelled
-    c.args.tokens.now) in
-    grouped_ends method_readers read total c.args.tokens.now c.loop.counter (map stmt_of c.loop.items.items)
-    (map spelled c.loop.rest.now) c.loop.invariant.few (sym c.ends_group-2.ensures ∙ c.if-not-ends_group.false)
-    c.loop.invariant.gives
+switches::group_statements-returns-clause-gives = rows.switches::group_statements-returns-clause-gives
 
 pub switches::groups-returns-in-Some-clause-gives : goal.switches::groups-returns-in-Some-clause-gives
-switches::groups-returns-in-Some-clause-gives t c =
-    let read = stmt_at method_readers c.args.limit in
-    let total = groups_at method_readers read c.args.limit (length (map spelled c.args.tokens.now)) (map spelled
-    c.args.tokens.now) in
-    groups_end method_readers read c.args.limit total c.args.tokens.now c.loop.counter (map group_of c.loop.items.items)
-    (map spelled c.loop.rest.now) (map spelled c.in-Some.after.now) c.loop-test.true c.in-Some.ensures.gives
-    c.loop.invariant.gives
+switches::groups-returns-in-Some-clause-gives = rows.switches::groups-returns-in-Some-clause-gives
 
 pub switches::groups-returns-in_err-next-clause-gives : goal.switches::groups-returns-in_err-next-clause-gives
-switches::groups-returns-in_err-next-clause-gives t c =
-    let read = stmt_at method_readers c.args.limit in
-    let total = groups_at method_readers read c.args.limit (length (map spelled c.args.tokens.now)) (map spelled
-    c.args.tokens.now) in
-    let p = err_from_is_err_and c.from_residual.result c.from_residual.ensures.1 in
-    rw (p.1, p.2) (group_fails method_readers read c.args.limit total c.args.tokens.now c.loop.counter (map group_of
-    c.loop.items.items) c.in_err-next.field-0.0 (map spelled c.loop.rest.now) c.loop-test.true
-    c.in_default.ensures.gives c.in_err-next.ensures.gives c.loop.invariant.gives)
+switches::groups-returns-in_err-next-clause-gives = rows.switches::groups-returns-in_err-next-clause-gives
 
 pub switches::groups-loop-preserved : goal.switches::groups-loop-preserved
-switches::groups-loop-preserved t c =
-    let n = c.in_ok-next.next in
-    let e : map group_of c.push.new.self.items ≡ map group_of c.loop.items.items ++ group_of n ∷ [] =
-    rw c.in_ok-push.ensures.items (map_push _ c.loop.items.items n) in
-    let read = stmt_at method_readers c.args.limit in
-    let total = groups_at method_readers read c.args.limit (length (map spelled c.args.tokens.now)) (map spelled
-    c.args.tokens.now) in
-    record {
-      gives = rw e (group_goes_on method_readers read c.args.limit total c.args.tokens.now c.loop.counter (map group_of
-          c.loop.items.items) (group_of n) (map spelled c.loop.rest.now) (map spelled c.in_ok-next.after.now)
-          c.loop-test.true c.in_default.ensures.gives c.in_ok-next.ensures.gives c.loop.invariant.gives);
-      places = rw c.in_ok-push.ensures.items (one_put group_places c.loop.items.items n (kept c.loop.rest.now)
-          (kept c.in_ok-next.after.now) _ c.in_ok-next.ensures.places c.loop.invariant.places);
-      shorter = omega (arith, c.in_ok-next.ensures.shorter, c.loop.invariant.shorter);
-    }
+switches::groups-loop-preserved = rows.switches::groups-loop-preserved
 
 pub switches::groups-loop-init : goal.switches::groups-loop-init
-switches::groups-loop-init t c =
-    let all : length (map spelled c.args.tokens.now) - 0 ≡ length (map spelled c.args.tokens.now) = omega arith in
-    record {
-      gives = rw (c.new-items.ensures.items, all) (no_group_before _);
-      places = rw c.new-items.ensures.items refl;
-      shorter = omega arith;
-    }
+switches::groups-loop-init = rows.switches::groups-loop-init
 
 pub switches::groups-returns-clause-gives : goal.switches::groups-returns-clause-gives
-switches::groups-returns-clause-gives t c =
-    let read = stmt_at method_readers c.args.limit in
-    let total = groups_at method_readers read c.args.limit (length (map spelled c.args.tokens.now)) (map spelled
-    c.args.tokens.now) in
-    groups_run_out method_readers read c.args.limit total c.args.tokens.now c.loop.counter (map group_of
-    c.loop.items.items) (map spelled c.loop.rest.now) c.loop-test.false c.loop.invariant.gives
+switches::groups-returns-clause-gives = rows.switches::groups-returns-clause-gives
 
-pub tries::clauses-returns-in_err-next-clause-gives : goal.tries::clauses-returns-in_err-next-clause-gives
-tries::clauses-returns-in_err-next-clause-gives t c =
-    let read = stmt_at method_readers c.args.limit in
-    let block = block_at method_readers c.args.limit in
-    let total = clauses_at method_readers read block c.args.limit (map spelled c.args.tokens.now) in
-    let p = err_from_is_err_and c.from_residual.result c.from_residual.ensures.1 in
-    rw (p.1, p.2) (row_fails method_readers (pieces_at method_readers read block c.args.limit catch_row)
-    (codes "catch") total c.args.tokens.now c.loop.counter (map catch_of c.loop.items.items) c.in_err-next.field-0.0
-    (map spelled c.loop.rest.now) (map spelled c.in-Some.after.now) c.loop-test.true c.in-Some.ensures.gives
-    c.in_err-next.ensures.gives c.loop.invariant.gives)
+pub statements::do_statement-returns-in_err-body-clause-gives :
+    goal.statements::do_statement-returns-in_err-body-clause-gives
+statements::do_statement-returns-in_err-body-clause-gives =
+    rows.statements::do_statement-returns-in_err-body-clause-gives
 
-pub tries::clauses-loop-preserved : goal.tries::clauses-loop-preserved
-tries::clauses-loop-preserved t c =
-    let n = c.in_ok-next.next in
-    let e : map catch_of c.push.new.self.items ≡ map catch_of c.loop.items.items ++ catch_of n ∷ [] =
-    rw c.in_ok-push.ensures.items (map_push _ c.loop.items.items n) in
-    let read = stmt_at method_readers c.args.limit in
-    let block = block_at method_readers c.args.limit in
-    let total = clauses_at method_readers read block c.args.limit (map spelled c.args.tokens.now) in
-    record {
-      gives = rw e (row_goes_on method_readers (pieces_at method_readers read block c.args.limit catch_row)
-          (codes "catch") total c.args.tokens.now c.loop.counter (map catch_of c.loop.items.items) (catch_of n)
-          (map spelled c.loop.rest.now) (map spelled c.in-Some.after.now) (map spelled c.in_ok-next.after.now)
-          c.loop-test.true c.in-Some.ensures.gives c.in_ok-next.ensures.gives c.loop.invariant.gives);
-      places = rw c.in_ok-push.ensures.items (one_put catch_places c.loop.items.items n (kept c.loop.rest.now)
-          (kept c.in_ok-next.after.now) _ (c.in_ok-next.ensures.places ∙ c.in-Some.ensures.places)
-          c.loop.invariant.places);
-      few = omega (arith, c.in-Some.ensures.shorter, c.in_ok-next.ensures.shorter, c.loop.invariant.few);
-    }
+pub statements::do_statement-returns-clause-gives : goal.statements::do_statement-returns-clause-gives
+statements::do_statement-returns-clause-gives = rows.statements::do_statement-returns-clause-gives
 
-pub tries::clauses-loop-init : goal.tries::clauses-loop-init
-tries::clauses-loop-init t c =
-    let all : suc (length (map spelled c.args.tokens.now)) - 0 ≡ suc (length (map spelled c.args.tokens.now)) =
-    omega arith in
-    record {
-      gives = rw (c.new-items.ensures.items, all) (no_row_before _);
-      places = rw c.new-items.ensures.items refl;
-      few = omega arith;
-    }
+pub statements::do_statement-returns-clause-places : goal.statements::do_statement-returns-clause-places
+statements::do_statement-returns-clause-places = rows.statements::do_statement-returns-clause-places
 
-pub tries::clauses-returns-clause-gives : goal.tries::clauses-returns-clause-gives
-tries::clauses-returns-clause-gives t c =
-    let read = stmt_at method_readers c.args.limit in
-    let block = block_at method_readers c.args.limit in
-    let total = clauses_at method_readers read block c.args.limit (map spelled c.args.tokens.now) in
-    let one = pieces_at method_readers read block c.args.limit catch_row in
-    elim c.loop-test.branch [
-      | tries::clauses-else-loop-test w ↦ rows_end method_readers one (codes "catch") total c.args.tokens.now
-          c.loop.counter (map catch_of c.loop.items.items) (map spelled c.loop.rest.now) (omega (
-            arith,
-            c.loop.invariant.few,
-          )) (no_keyword (codes "catch") c.loop.rest.now (omega (arith, c.loop.invariant.few, w.loop-test.false)))
-          c.loop.invariant.gives
-      | tries::clauses-then-loop-test+in_default w ↦ rows_end method_readers one (codes "catch") total
-          c.args.tokens.now c.loop.counter (map catch_of c.loop.items.items) (map spelled c.loop.rest.now) (omega (
-            arith,
-            c.loop.invariant.few,
-          )) w.in_default.ensures.gives c.loop.invariant.gives
-    ]
+pub statements::do_statement-returns-clause-shorter : goal.statements::do_statement-returns-clause-shorter
+statements::do_statement-returns-clause-shorter = rows.statements::do_statement-returns-clause-shorter
+
+pub statements::label_statement-returns-in_err-inside-clause-gives :
+    goal.statements::label_statement-returns-in_err-inside-clause-gives
+statements::label_statement-returns-in_err-inside-clause-gives =
+    rows.statements::label_statement-returns-in_err-inside-clause-gives
+
+pub statements::label_statement-returns-clause-gives : goal.statements::label_statement-returns-clause-gives
+statements::label_statement-returns-clause-gives = rows.statements::label_statement-returns-clause-gives
+
+pub statements::label_statement-returns-clause-places : goal.statements::label_statement-returns-clause-places
+statements::label_statement-returns-clause-places = rows.statements::label_statement-returns-clause-places
+
+pub statements::label_statement-returns-clause-shorter : goal.statements::label_statement-returns-clause-shorter
+statements::label_statement-returns-clause-shorter = rows.statements::label_statement-returns-clause-shorter
+
+pub switches::switch_statement-returns-in_err-value-clause-gives :
+    goal.switches::switch_statement-returns-in_err-value-clause-gives
+switches::switch_statement-returns-in_err-value-clause-gives =
+    rows.switches::switch_statement-returns-in_err-value-clause-gives
+
+pub switches::switch_statement-returns-in_err-groups-clause-gives :
+    goal.switches::switch_statement-returns-in_err-groups-clause-gives
+switches::switch_statement-returns-in_err-groups-clause-gives =
+    rows.switches::switch_statement-returns-in_err-groups-clause-gives
+
+pub switches::switch_statement-returns-clause-gives : goal.switches::switch_statement-returns-clause-gives
+switches::switch_statement-returns-clause-gives = rows.switches::switch_statement-returns-clause-gives
+
+pub switches::switch_statement-returns-clause-places : goal.switches::switch_statement-returns-clause-places
+switches::switch_statement-returns-clause-places = rows.switches::switch_statement-returns-clause-places
+
+pub switches::switch_statement-returns-clause-shorter : goal.switches::switch_statement-returns-clause-shorter
+switches::switch_statement-returns-clause-shorter = rows.switches::switch_statement-returns-clause-shorter
+
+pub tries::parts-loop-init : goal.tries::parts-loop-init
+tries::parts-loop-init = rows.tries::parts-loop-init
+
+pub tries::parts-returns-in_err-next-in-Clause-clause-gives :
+    goal.tries::parts-returns-in_err-next-in-Clause-clause-gives
+tries::parts-returns-in_err-next-in-Clause-clause-gives = rows.tries::parts-returns-in_err-next-in-Clause-clause-gives
+
+pub tries::parts-returns-in_err-last-in-Last-clause-gives : goal.tries::parts-returns-in_err-last-in-Last-clause-gives
+tries::parts-returns-in_err-last-in-Last-clause-gives = rows.tries::parts-returns-in_err-last-in-Last-clause-gives
+
+pub tries::parts-loop-preserved : goal.tries::parts-loop-preserved
+tries::parts-loop-preserved = rows.tries::parts-loop-preserved
+
+pub tries::parts-returns-clause-gives : goal.tries::parts-returns-clause-gives
+tries::parts-returns-clause-gives = rows.tries::parts-returns-clause-gives

@@ -1,12 +1,12 @@
-use Rattle.std.proofs.Common.{◌≡◌, ◌+◌, ◌*◌, ◌-◌, ◌≤◌, suc, length, map, codes}
-use Rattle.java_tree.specs.KeptPlaces.{kept, each_puts, stmt_places, group_places, catch_places}
+use Rattle.std.proofs.Common.{◌≡◌, ◌+◌, ◌*◌, ◌-◌, ◌≤◌, suc, length, map, option_map}
+use Rattle.java_tree.specs.KeptPlaces.{kept, each_puts, stmt_places, group_places}
 use Rattle.java_tree.specs.Rows.{catch_row}
 use Rattle.java_tree.specs.View.{stmt_of, group_of, catch_of}
 use Rattle.java_parser_grammar.specs.StatementReading.{stmts_at, braces_at, stmt_at, block_at, group_stmts_at}
-use Rattle.java_parser_grammar.specs.StatementReading.{groups_at}
-use Rattle.java_parser_grammar.specs.StatementReading.{again_at, pieces_at}
+use Rattle.java_parser_grammar.specs.StatementReading.{groups_at, pieces_at}
 use Rattle.java_parser_grammar.specs.JavaReaders.{method_readers}
-use Rattle.java_parser_methods.specs.RowReading.{clauses_at, groups_finished, rows_finished}
+use Rattle.java_parser_parts.specs.PartsView.{block_of, parts_places}
+use Rattle.java_parser_methods.specs.RowReading.{groups_finished, parts_at, parts_finished, parts_left}
 use Rattle.java_parser_types.specs.Tokens.{spelled}
 use Rattle.java_parser_types.specs.Finishing.{finished}
 use Rattle.java_parser_types.specs.Endings.{as_they_are, block_end}
@@ -41,13 +41,14 @@ invariant-switches::groups-loop l = record {
   shorter : length l.rest ≤ length l.tokens;
 }
 
-abbrev pub invariant-tries::clauses-loop : goal.invariant-tries::clauses-loop
-invariant-tries::clauses-loop l = record {
-  gives : rows_finished (map catch_of l.items.items) (again_at method_readers (pieces_at method_readers
-      (stmt_at method_readers l.limit) (block_at method_readers l.limit) l.limit catch_row) (codes "catch")
-      (suc (length (map spelled l.tokens)) - l.counter) (map spelled l.rest)) ≡ clauses_at method_readers
+abbrev pub invariant-tries::parts-loop : goal.invariant-tries::parts-loop
+invariant-tries::parts-loop l = record {
+  gives : parts_finished (map catch_of l.parts.clauses.items) (parts_left method_readers (pieces_at method_readers
+      (stmt_at method_readers l.limit) (block_at method_readers l.limit) l.limit catch_row)
+      (block_at method_readers l.limit) (suc (length (map spelled l.tokens)) - l.counter)
+      (option_map block_of l.parts.last) (map spelled l.rest)) ≡ parts_at method_readers
       (stmt_at method_readers l.limit) (block_at method_readers l.limit) l.limit (map spelled l.tokens);
-  places : each_puts (map catch_places l.items.items) (kept l.rest) ≡ kept l.tokens;
+  places : parts_places l.parts (kept l.rest) ≡ kept l.tokens;
   few : l.counter + length l.rest ≤ length l.tokens;
 }
 
@@ -105,11 +106,8 @@ decreases-switches::group_statements l = 8 * l.limit + 1
 abbrev pub decreases-tries::try_statement : goal.decreases-tries::try_statement
 decreases-tries::try_statement l = 8 * l.limit + 5
 
-abbrev pub decreases-tries::clauses : goal.decreases-tries::clauses
-decreases-tries::clauses l = 8 * l.limit + 3
-
 abbrev pub decreases-tries::clause : goal.decreases-tries::clause
 decreases-tries::clause l = 8 * l.limit + 2
 
-abbrev pub decreases-tries::last_block : goal.decreases-tries::last_block
-decreases-tries::last_block l = 8 * l.limit + 4
+abbrev pub decreases-tries::parts : goal.decreases-tries::parts
+decreases-tries::parts l = 8 * l.limit + 3

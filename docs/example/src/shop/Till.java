@@ -39,10 +39,10 @@ public class Till {
 
   public int rate(String text) {
     last = text;
-    try {
+    IntSupplier read = () -> {
       return Integer.parseInt(text);
-    } catch (NumberFormatException wrong) {
-      return 0;
-    }
+    };
+
+    return read.getAsInt();
   }
 }

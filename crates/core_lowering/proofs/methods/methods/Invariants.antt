@@ -2,12 +2,12 @@ use Rattle.std.proofs.Common.{◌≡◌, ◌++◌, map, drop, length}
 use Rattle.core_code.specs.Core.{method_of}
 use Rattle.core_lowering_rules.specs.Programs.{method_cores}
 use Rattle.core_lowering_methods.specs.Views.{folder_of}
-use Rattle.core_lowering_methods.specs.Sources.{source_of}
+use Rattle.core_lowering.specs.Surveys.{seen}
 use Rattle.core_lowering.proofs.methods.methods.Given as goal
 
-abbrev pub invariant-loop-source : goal.invariant-loop-source
-invariant-loop-source l =
+abbrev pub invariant-loop-one : goal.invariant-loop-one
+invariant-loop-one l =
     let folder = folder_of l.table l.statuses in
     let so_far = length l.yielded in
-    map method_of l.methods ++ method_cores folder (map source_of (drop so_far l.sources)) (drop so_far l.statuses) ≡
-    method_cores folder (map source_of l.sources) l.statuses
+    map method_of l.methods ++ method_cores folder (map seen (drop so_far l.surveyed)) (drop so_far l.statuses) ≡
+    method_cores folder (map seen l.surveyed) l.statuses

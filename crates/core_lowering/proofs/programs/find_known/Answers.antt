@@ -1,30 +1,48 @@
-use Rattle.std.proofs.Common.{◌≡◌, List, [], map, ap, ◌∙◌}
+use Rattle.std.proofs.Common.{◌≡◌, List, [], map, ap, subst, sym, ◌∙◌}
 use Rattle.java_resolver.specs.Table.{classes, fields, methods}
+use Rattle.core_lowering_rules.specs.Methods.{Source as SeenSource}
 use Rattle.core_lowering_rules.specs.Programs.{sources_of}
 use Rattle.core_lowering_methods.specs.declared.sources.Source.{Source}
 use Rattle.core_lowering_methods.specs.Sources.{source_of}
 use Rattle.core_lowering_methods.specs.Views.{folder_of}
 use Rattle.core_lowering.specs.Calls.{row_in}
 use Rattle.core_lowering.specs.Parts.{parts_of, with_infos}
-use Rattle.core_lowering.specs.Reasons.{reason_of}
+use Rattle.core_lowering.specs.Reasons.{declared_by, own_reason}
+use Rattle.core_lowering.specs.Surveys.{seen, AreCounted}
+use Rattle.core_lowering.proofs.CountedSources.{sources-counted}
 use Rattle.core_lowering.proofs.SamePrograms.{rows-made}
 use Rattle.core_lowering.proofs.SameSources.{sources-made}
 use Rattle.core_lowering.proofs.programs.find_known.Goals as goal
 
+pub find_surveys-requires : goal.find_surveys-requires
+find_surveys-requires c =
+    let units = c.args.units.now in
+    let all : List Source = c.in_ok-sources.sources.items in
+    let same : map source_of all ≡ sources_of units =
+    c.in_ok-sources.ensures ∙ ap (with_infos (parts_of units)) (c.methods.ensures ∙ c.requires.methods)
+    ∙ sources-made units in
+    subst AreCounted (sym c.as_slice.ensures.value) (sources-counted units all same c.requires.counted)
+
 pub returns-clause-known : goal.returns-clause-known
 returns-clause-known c =
     let units = c.args.units.now in
+    let all : List Source = c.in_ok-sources.sources.items in
+    let same : map seen c.in_ok-surveys.surveys.methods.items ≡ map source_of all =
+    c.in_ok-surveys.ensures.methods
+    ∙ ap (λ (ss : List Source). map source_of ss) c.as_slice.ensures.value in
     record {
       classes = c.requires.classes;
       fields = c.requires.fields;
       methods = c.requires.methods;
       sources =
-          c.in_ok-sources.ensures
+          same ∙ c.in_ok-sources.ensures
           ∙ ap (with_infos (parts_of units)) (c.methods.ensures ∙ c.requires.methods)
           ∙ sources-made units;
+      extents = c.in_ok-surveys.ensures.extents;
       reasons =
-          c.in_ok-drafts.ensures.reasons
-          ∙ ap (map (reason_of c.args.table.now)) c.as_slice.ensures.value;
+          c.in_ok-surveys.ensures.reasons
+          ∙ ap (λ (ss : List SeenSource). map (own_reason (declared_by c.args.table.now)) ss)
+          (sym c.in_ok-surveys.ensures.methods);
     }
 
 pub returns-clause-rows : goal.returns-clause-rows
@@ -35,7 +53,7 @@ returns-clause-rows c =
     let same : map source_of all ≡ sources_of units =
     c.in_ok-sources.ensures ∙ ap (with_infos (parts_of units)) (c.methods.ensures ∙ c.requires.methods)
     ∙ sources-made units in
-    c.in_ok-drafts.ensures.rows
+    c.in_ok-surveys.ensures.rows
     ∙ ap (λ (ss : List Source). map (row_in (folder_of table [])) (map source_of ss)) c.as_slice.ensures.value
     ∙ rows-made units (classes table) (fields table) (methods table) (map source_of all) c.requires.classes
     c.requires.fields c.requires.methods same

@@ -2,9 +2,8 @@ use Rattle.std.proofs.Common.{◌≡◌, map, ap, subst, ◌∙◌, IfOk, string
 use Rattle.core_code.specs.Chains.{flag_of}
 use Rattle.core_code.specs.Core.{Core, core_of}
 use Rattle.java_resolver.specs.Table.{classes, fields, methods}
-use Rattle.core_lowering_methods.specs.Sources.{source_of}
 use Rattle.core_lowering.specs.Reasons.{with_recursive}
-use Rattle.core_lowering.proofs.SameReasons.{sources-reasons}
+use Rattle.core_lowering.specs.Surveys.{seen}
 use Rattle.core_lowering.proofs.SamePrograms.{program-made}
 use Rattle.core_lowering.proofs.programs.program_parts.Goals as goal
 
@@ -12,10 +11,9 @@ pub returns : goal.returns
 returns c =
     let table = c.args.table.now in
     subst (λ (core : Core). IfOk c.parts.result (λ parts. core_of parts ≡ core))
-    (program-made c.args.units.now (classes table) (fields table) (methods table) (map source_of c.args.sources.now)
+    (program-made c.args.units.now (classes table) (fields table) (methods table) (map seen c.args.surveyed.now)
     c.requires.known.classes c.requires.known.fields c.requires.known.methods c.requires.known.sources
     (map (λ file. string_bytes file) c.args.files.now) (flag_of c.args.recursive.now) c.as_slice.result.now
     (c.as_slice.ensures.value ∙ c.in_ok-statuses.ensures
-    ∙ ap (λ reasons. with_recursive (flag_of c.args.recursive.now) 0 reasons)
-    (c.requires.known.reasons ∙ sources-reasons table c.args.sources.now)))
+    ∙ ap (λ reasons. with_recursive (flag_of c.args.recursive.now) 0 reasons) c.requires.known.reasons))
     c.parts.ensures

@@ -1,4 +1,4 @@
-use Rattle.std.proofs.Common.{◌≡◌, List, map, option_map, sym, ap, ◌∙◌}
+use Rattle.std.proofs.Common.{List, map, sym, ap, ◌∙◌}
 use Rattle.java_tree.specs.declared.statements.Statement.{Statement}
 use Rattle.core_lowering_rules.specs.Trees.{lock_before, pack_stmts}
 use Rattle.core_lowering_rules.specs.TreesOf.{stmt_of}
@@ -10,5 +10,5 @@ returns-in-Some c =
     let s = stmt_of c.args.statement.now in
     c.lock_before.ensures
     ∙ ap (λ (ss : List Statement). lock_before s (pack_stmts (map stmt_of ss))) c.as_slice.ensures.value
-    ∙ sym (behind-finally s c.args.tried.now c.in-Some.finally (sym c.is_some.ensures ∙ c.if-is_some.false)
+    ∙ sym (behind-finally s c.args.tried.now c.in-Some.finally (sym c.has_resource.ensures ∙ c.if-has_resource.false)
     c.in-Some.is)

@@ -1,0 +1,6 @@
+use Rattle.core_lowering_drafts.specs.EndSets.{exits_asked}
+use Rattle.core_lowering_drafts.proofs.EndSets.{final-listed}
+use Rattle.core_lowering_drafts.proofs.ends.Asked.final_ends.Goals as goal
+
+pub returns : goal.returns
+returns c = final-listed c.args.self.normal c.args.self.returns c.args.self.throws (exits_asked c.args.self.exits)

@@ -1,0 +1,9 @@
+use Rattle.std.proofs.Common.{sym}
+use Rattle.core_lowering_drafts.specs.Drafts.{Normal}
+use Rattle.core_lowering_drafts.proofs.EndSets.{has-listed}
+use Rattle.core_lowering_drafts.proofs.ends.Ends.has_normal.Goals as goal
+
+pub returns : goal.returns
+returns c =
+    let s = c.args.self.now in
+    sym (has-listed s.normal s.returns s.throws s.exits.keys Normal)

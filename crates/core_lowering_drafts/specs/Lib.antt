@@ -1,0 +1,19 @@
+-- A contract of a public call rests on this: the list of files.
+pub mod Ahead
+pub mod Branches
+pub mod Drafts
+pub mod EndSets
+pub mod Examples
+pub mod Falls
+pub mod Groups
+pub mod Lists
+pub mod Only
+pub mod Paths
+pub mod PieceFalls
+pub mod Pieces
+pub mod Plain
+pub mod Rooms
+pub mod Sites
+pub mod Sizes
+pub mod Told
+pub mod Written

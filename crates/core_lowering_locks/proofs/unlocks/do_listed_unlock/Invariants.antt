@@ -1,0 +1,10 @@
+use Rattle.std.proofs.Common.{◌≡◌, map, drop}
+use Rattle.core_lowering_rules.specs.TreesOf.{resource_of}
+use Rattle.core_lowering_rules.specs.Unlocks as wanted
+use Rattle.core_lowering_locks.proofs.unlocks.do_listed_unlock.Given as goal
+
+-- it depends on what is left
+abbrev pub invariant-loop-resource : goal.invariant-loop-resource
+invariant-loop-resource l =
+    wanted.do_resources_unlock (map resource_of (drop l.resource-index l.resources))
+    ≡ wanted.do_resources_unlock (map resource_of l.resources)

@@ -1,0 +1,3 @@
+pub mod SeenParts
+pub mod NextParts
+pub mod LabelLoops
