@@ -9,4 +9,3 @@ pub mod Ordered
 pub mod SamePrograms
 pub mod Loops
 pub mod MethodsMade
-pub mod CountedSources

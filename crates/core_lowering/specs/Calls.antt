@@ -7,7 +7,7 @@ use Rattle.core_code.specs.Recursion.{all_calls_in}
 use Rattle.core_code.specs.CalleeRows.{different}
 use Rattle.core_lowering_rules.specs.Context.{Folder}
 use Rattle.core_lowering_rules.specs.Methods.{Source, method_code}
-use Rattle.core_lowering_rules.specs.Sites.{numbered}
+use Rattle.core_lowering_drafts.specs.Sites.{numbered}
 
 -- the code of a method
 abbrev pub code_in : Folder → Source → Tree

@@ -1,10 +1,7 @@
--- A contract of a public call rests on this: `lower`. Which fault units have that have no program, and what its table
--- and units have to be.
+-- A contract of a public call rests on this: `lower`. Which fault units have that have no program.
 use Rattle.std.specs.Prelude.{◌≡◌, ◌<◌, ℕ, List, []}
 use Rattle.racer_base.specs.declared.limits.TheConstants.{MAX_CALL_EDGES}
-use Rattle.java_tree.specs.Formed.{Each}
 use Rattle.java_tree.specs.declared.unit.Unit as unit_type
-use Rattle.java_parser_grammar.specs.CountedTokens as counted
 use Rattle.core_lowering_rules.specs.Programs.{draft_of, call_edges}
 use Rattle.core_lowering.specs.declared.fault.LowerFault.{LowerFault}
 use Rattle.core_lowering.specs.declared.fault.LowerFault.TheVariants.{TooManyCalls, Memory}
@@ -17,7 +14,3 @@ calls_of units = call_edges (draft_of [] units)
 abbrev pub IsFault : List unit_type.Unit → LowerFault → Type 0
 IsFault units (TooManyCalls n) = (calls_of units ≡ n) × (MAX_CALL_EDGES < n)
 IsFault units Memory = Unit {0}
-
--- the tree of each method keeps how many tokens its spelling has
-abbrev pub AreCounted : List unit_type.Unit → Type 0
-AreCounted = Each counted.AreCounted

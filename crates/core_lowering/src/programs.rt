@@ -16,7 +16,7 @@ ghost use Rattle.core_lowering_rules.specs.Programs.{draft_of, IsLowered};
 ghost use Rattle.core_lowering_methods.specs.Views.{folder_of};
 ghost use Rattle.core_lowering.specs.Calls.{are_rows_low};
 ghost use Rattle.core_lowering.specs.Known.{IsKnown};
-ghost use Rattle.core_lowering.specs.Lowered.{calls_of, AreCounted, IsFault};
+ghost use Rattle.core_lowering.specs.Lowered.{calls_of, IsFault};
 ghost use Rattle.core_lowering.specs.Surveys.{seen as source_seen, IsRight};
 
 use crate::classes::{classes, fields, file_names};
@@ -146,7 +146,6 @@ fn find_known<'a>(alloc: Global, table: &'a Table, units: &'a [Unit]) -> Result<
     requires classes { seen.classes table.now ≡ classes_of units.now }
     requires fields { seen.fields table.now ≡ fields_of units.now }
     requires methods { seen.methods table.now ≡ methods_of units.now }
-    requires counted { AreCounted units.now }
     ensures known { IfOk result (λ surveys.
         IsKnown table.now units.now surveys.methods.items surveys.reasons.items) }
     ensures rows { IfOk result (λ surveys. surveys.rows.items ≡ all_rows (draft_of [] units.now)) }
@@ -169,7 +168,6 @@ pub fn lower(
     requires accepted { refusal units.now ≡ None }
     requires named { IsTrue (are_named units.now) }
     requires placed { IsTrue (are_in_files (map (λ file. string_bytes file) files.now) units.now) }
-    requires counted { AreCounted units.now }
     ensures ok { IfOk result (λ made.
         IsLowered (map (λ file. string_bytes file) files.now) units.now (program.core made)) }
     ensures few { IfOk result (λ _. calls_of units.now ≤ MAX_CALL_EDGES) }

@@ -5,13 +5,13 @@ ghost use Rattle.std.specs.Prelude.{◌≡◌, [], IfOk, map};
 ghost use Rattle.std.specs.List.{All};
 ghost use Rattle.java_resolver.specs.Table.{methods};
 ghost use Rattle.core_lowering_rules.specs.Methods.{is_past_limit};
-ghost use Rattle.core_lowering_methods.specs.Extents.{is_past, IsCounted};
+ghost use Rattle.core_lowering_methods.specs.Extents.{is_past};
 ghost use Rattle.core_lowering_methods.specs.Views.{folder_of};
 ghost use Rattle.core_lowering_methods.specs.Sources.{source_of};
 ghost use Rattle.core_lowering.specs.Calls as wanted;
 ghost use Rattle.core_lowering.specs.Counts.{AreCounts};
 ghost use Rattle.core_lowering.specs.Reasons.{declared_by, own_reason};
-ghost use Rattle.core_lowering.specs.Surveys.{seen, IsRight, AreCounted};
+ghost use Rattle.core_lowering.specs.Surveys.{seen, IsRight};
 
 use crate::counts::count_methods;
 use crate::statuses::first_reason;
@@ -37,8 +37,7 @@ struct Found {
 }
 
 fn survey(alloc: Global, table: &Table, counts: &[u32], source: &Source) -> Result<Found, Memory>
-    requires counts { AreCounts (methods table.now) counts.now }
-    requires counted { IsCounted (source_of source.now) }
+    requires { AreCounts (methods table.now) counts.now }
     ensures row { IfOk result (λ found. found.row ≡ wanted.row_in (folder_of table.now []) (source_of source.now)) }
     ensures reason { IfOk result (λ found.
         found.reason ≡ own_reason (declared_by table.now) (source_of source.now)) }
@@ -71,8 +70,7 @@ fn survey_all<'a>(
     counts: &[u32],
     sources: &[Source<'a>],
 ) -> Result<Surveys<'a>, Memory>
-    requires counts { AreCounts (methods table.now) counts.now }
-    requires counted { AreCounted sources.now }
+    requires { AreCounts (methods table.now) counts.now }
     ensures rows { IfOk result (λ surveys.
         surveys.rows.items ≡ map (wanted.row_in (folder_of table.now [])) (map source_of sources.now)) }
     ensures reasons { IfOk result (λ surveys.
@@ -105,7 +103,6 @@ pub(crate) fn find_surveys<'a>(
     table: &Table,
     sources: &[Source<'a>],
 ) -> Result<Surveys<'a>, Memory>
-    requires { AreCounted sources.now }
     ensures rows { IfOk result (λ surveys.
         surveys.rows.items ≡ map (wanted.row_in (folder_of table.now [])) (map source_of sources.now)) }
     ensures reasons { IfOk result (λ surveys.

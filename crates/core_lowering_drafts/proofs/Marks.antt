@@ -42,21 +42,21 @@ pub forked-here : (c0 c1 c2 c3 c4 L R : Code) (first second : ℕ) → c1 ≡ c0
     second ≡ length c2 → c3 ≡ c2 ++ R →
     c4 ≡ take first (take second c3) ++ fork (drop first (take second c3)) (drop second c3) → c4 ≡ c0 ++ fork L R
 forked-here c0 c1 c2 c3 c4 L R first second e1 e2 e3 e4 e5 e6 =
-    let w2 : c2 ≡ c0 ++ L = e3 ∙ ap (λ x. x ++ L) e1 in
-    let w3 : c3 ≡ (c0 ++ L) ++ R = e5 ∙ ap (λ x. x ++ R) w2 in
+    let with-left : c2 ≡ c0 ++ L = e3 ∙ ap (λ x. x ++ L) e1 in
+    let with-right : c3 ≡ (c0 ++ L) ++ R = e5 ∙ ap (λ x. x ++ R) with-left in
     let f : first ≡ length c0 = e2 ∙ ap (λ (x : Code). length x) e1 in
-    let s : second ≡ length (c0 ++ L) = e4 ∙ ap (λ (x : Code). length x) w2 in
+    let s : second ≡ length (c0 ++ L) = e4 ∙ ap (λ (x : Code). length x) with-left in
     e6 ∙ ap (λ x. forked_at x second c3) f ∙ ap (λ x. forked_at (length c0) x c3) s
-    ∙ ap (λ x. forked_at (length c0) (length (c0 ++ L)) x) w3 ∙ closed-here c0 L R
+    ∙ ap (λ x. forked_at (length c0) (length (c0 ++ L)) x) with-right ∙ closed-here c0 L R
 
 -- one that was written
 pub wrapped-here : (wrap : Code → Code) (c0 c1 c2 c3 B : Code) (at : ℕ) → c1 ≡ c0 → at ≡ length c1 → c2 ≡ c1 ++ B →
     c3 ≡ take at c2 ++ wrap (drop at c2) → c3 ≡ c0 ++ wrap B
 wrapped-here wrap c0 c1 c2 c3 B at e1 e2 e3 e4 =
-    let w2 : c2 ≡ c0 ++ B = e3 ∙ ap (λ x. x ++ B) e1 in
+    let with-body : c2 ≡ c0 ++ B = e3 ∙ ap (λ x. x ++ B) e1 in
     let f : at ≡ length c0 = e2 ∙ ap (λ (x : Code). length x) e1 in
     e4 ∙ ap (λ x. take x c2 ++ wrap (drop x c2)) f
-    ∙ ap (λ x. take (length c0) x ++ wrap (drop (length c0) x)) w2
+    ∙ ap (λ x. take (length c0) x ++ wrap (drop (length c0) x)) with-body
     ∙ ap (λ t. t ++ wrap (drop (length c0) (c0 ++ B))) (take-append_seam c0 B)
     ∙ ap (λ t. c0 ++ wrap t) (drop-append_seam c0 B)
 

@@ -83,11 +83,11 @@ part-goes marks W W' P made rest =
     ap (λ code. closed marks code) (ap (λ code. code ++ rest) made ∙ append_assoc W P rest)
 
 -- both
-pub part-both : (marks new : List Fork) (W W1 W' E P : Code) → W1 ≡ W ++ E → W' ≡ W1 ++ P →
-    new ≡ marks ++ record { left = length W; right = length W1 } ∷ [] → (rest : Code) →
+pub part-both : (marks new : List Fork) (W V W' E P : Code) → V ≡ W ++ E → W' ≡ V ++ P →
+    new ≡ marks ++ record { left = length W; right = length V } ∷ [] → (rest : Code) →
     closed new (W' ++ rest) ≡ closed marks (W ++ fork E (P ++ rest))
-part-both marks new W W1 W' E P aside on_behind noted rest =
-    let mark : Fork = record { left = length W; right = length W1 } in
+part-both marks new W V W' E P aside on_behind noted rest =
+    let mark : Fork = record { left = length W; right = length V } in
     let whole : W' ++ rest ≡ (W ++ E) ++ (P ++ rest) =
     ap (λ code. code ++ rest) (on_behind ∙ ap (λ code. code ++ P) aside) ∙ append_assoc (W ++ E) P rest in
     ap (λ (ms : List Fork). closed ms (W' ++ rest)) noted ∙ closed-push marks mark (W' ++ rest)

@@ -26,7 +26,8 @@ use Rattle.core_code.specs.declared.code.Reason.TheVariants.{Recursive}
 use Rattle.core_code.specs.Tree.{Tree, Op, Choice, Loop, Sync, in_sequence}
 use Rattle.core_lowering_rules.specs.ValueKinds.{ValueKind}
 use Rattle.core_lowering_drafts.specs.Only.{Code}
-use Rattle.core_lowering_rules.specs.Context.{Folder, Context, Result, Itself, Nothing, Value, lock_at, made}
+use Rattle.core_lowering_rules.specs.Context.{Folder, Context, Result, Itself, Nothing, Value, made}
+use Rattle.core_lowering_drafts.specs.Sites.{lock_at}
 use Rattle.core_lowering_rules.specs.Expressions.{kind, code}
 use Rattle.core_lowering_rules.specs.Scopes.{declared}
 use Rattle.core_lowering_rules.specs.Statements.{stmt}

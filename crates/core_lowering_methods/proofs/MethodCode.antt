@@ -1,5 +1,5 @@
 -- The code of methods out of the parts in which it is made.
-use Rattle.std.proofs.Common.{◌≡◌, ℕ, Bool, true, false, not, cond, List, [], ◌∷◌, ◌++◌, length, refl, sym, ap, ◌∙◌}
+use Rattle.std.proofs.Common.{◌≡◌, Bool, true, false, not, cond, List, [], ◌∷◌, ◌++◌, refl, sym, ap, ◌∙◌}
 use Rattle.std.proofs.Common.{append-nil, append_assoc}
 use Rattle.std.specs.Prelude.{codes, None}
 use Rattle.std.specs.List.{flat_map}
@@ -7,8 +7,7 @@ use Rattle.racer_base.specs.declared.ids.Place.{Place}
 use Rattle.java_tree.specs.declared.methods.MethodTree.{MethodTree}
 use Rattle.java_tree.specs.declared.methods.ParameterTree.{ParameterTree}
 use Rattle.java_tree.specs.declared.unit.Member.{Member}
-use Rattle.java_tree.specs.Spelling.{spelling}
-use Rattle.java_tree.specs.View.{ty_of, method_of}
+use Rattle.java_tree.specs.View.{ty_of}
 use Rattle.java_resolver.specs.Declarations.{is_constructor}
 use Rattle.java_resolver.specs.Words.{has_word}
 use Rattle.core_code.specs.Tree.{Tree, in_sequence}
@@ -19,7 +18,7 @@ use Rattle.core_lowering_rules.specs.Statements.{closed, returned, stmts}
 use Rattle.core_lowering_rules.specs.Methods.{Source, Default, Spelled, entered, parameters_declared, member_begun}
 use Rattle.core_lowering_rules.specs.Methods.{fields_begun, body_of, block_code, locked, ended, spelled_code}
 use Rattle.core_lowering_rules.specs.Methods.{none_analysed, is_large, code_in}
-use Rattle.core_lowering_rules.specs.Sites.{numbered}
+use Rattle.core_lowering_drafts.specs.Sites.{numbered}
 use Rattle.core_lowering_methods.specs.Bodies.{inside, object_begun, owner_pushed, under_lock, with_end, whole_code}
 use Rattle.core_lowering_methods.specs.Bodies.{kept_code}
 use Rattle.core_lowering_methods.specs.Parts.{left_at}
@@ -49,10 +48,9 @@ bare folder = record folder { statuses = [] }
 -- the limit is told of the code of a block in which none is
 pub limit-told : (folder : Folder) (s : Source) (m : MethodTree) →
     is_large (inside folder s m) m ≡
-    not (is_small (length (spelling (method_of m))) (in_sequence (block_code (inside (bare folder) s m) (body_of m))))
+    not (is_small m.tokens (in_sequence (block_code (inside (bare folder) s m) (body_of m))))
 limit-told folder s m =
-    ap (λ (context : Context).
-    not (is_small (length (spelling (method_of m))) (in_sequence (block_code context (body_of m)))))
+    ap (λ (context : Context). not (is_small m.tokens (in_sequence (block_code context (body_of m)))))
     (none-declared (entered folder s) m.parameters)
 
 -- ---- code
@@ -123,22 +121,19 @@ spelled-made folder s m is_past place fields owner block last code past at f o b
     ∙ whole-made context s.members m))
 
 -- the limit, told of a block where none is analysed
-pub measured-past : (folder : Folder) (s : Source) (m : MethodTree) (is_past : Bool) (tokens : ℕ) (block : Code) →
-    is_past ≡ not (is_small tokens (in_sequence (made block))) → tokens ≡ length (spelling (method_of m)) →
+pub measured-past : (folder : Folder) (s : Source) (m : MethodTree) (is_past : Bool) (block : Code) →
+    is_past ≡ not (is_small m.tokens (in_sequence (made block))) →
     block ≡ closed (inside (bare folder) s m) (after_all (inside (bare folder) s m) (body_of m))
     (stmts (inside (bare folder) s m) (body_of m)) → is_past ≡ is_large (inside folder s m) m
-measured-past folder s m is_past tokens block past counted b =
-    past ∙ ap (λ n. not (is_small n (in_sequence (made block)))) counted
-    ∙ ap (λ (x : Code). not (is_small (length (spelling (method_of m))) (in_sequence (made x)))) b
-    ∙ sym (limit-told folder s m)
+measured-past folder s m is_past block past b =
+    past ∙ ap (λ (x : Code). not (is_small m.tokens (in_sequence (made x)))) b ∙ sym (limit-told folder s m)
 
 -- it is told of a folder as of any other that has other statuses alone
 pub known-past : (first second : Folder) (s : Source) (m : MethodTree) (is_past : Bool) → bare first ≡ bare second →
     is_past ≡ is_large (inside first s m) m → is_past ≡ is_large (inside second s m) m
 known-past first second s m is_past same past =
     past ∙ limit-told first s m
-    ∙ ap (λ (folder : Folder).
-    not (is_small (length (spelling (method_of m))) (in_sequence (block_code (inside folder s m) (body_of m))))) same
+    ∙ ap (λ (folder : Folder). not (is_small m.tokens (in_sequence (block_code (inside folder s m) (body_of m))))) same
     ∙ sym (limit-told second s m)
 
 -- the constructor that a class has without declaring it

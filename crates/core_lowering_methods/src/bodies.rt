@@ -12,10 +12,10 @@ ghost use Rattle.core_lowering_rules.specs.Methods as wanted;
 ghost use Rattle.core_lowering_rules.specs.Methods.{Default, Spelled, Unspelled, entered};
 ghost use Rattle.core_lowering_rules.specs.Methods.{body_of, code_in, kinds_in, end_of};
 ghost use Rattle.core_lowering_rules.specs.Methods.{has_other_lock, is_apart, is_past_limit, method_code, method_kinds};
-ghost use Rattle.core_lowering_rules.specs.Sites.{numbered};
+ghost use Rattle.core_lowering_drafts.specs.Sites.{numbered};
 ghost use Rattle.core_lowering_methods.specs.Bodies.{inside, object_begun, owner_pushed, under_lock, with_end};
 ghost use Rattle.core_lowering_methods.specs.Bodies.{whole_code, kept_code, Tells};
-ghost use Rattle.core_lowering_methods.specs.Extents.{is_past, IsBodyCounted, IsCounted};
+ghost use Rattle.core_lowering_methods.specs.Extents.{is_past};
 ghost use Rattle.core_lowering_methods.specs.Parts.{left_at};
 ghost use Rattle.core_lowering_methods.specs.Sources.{source_of};
 ghost use Rattle.core_lowering_methods.specs.Views.{folder_of};
@@ -442,7 +442,6 @@ fn survey_spelled(
     source: &Source,
     m: &MethodTree,
 ) -> Result<Survey, Memory>
-    requires { IsBodyCounted (Spelled m.now) }
     ensures code { IfOk result (λ survey. tree_of survey.lowered.code ≡ numbered 0 (in_sequence (code_in
         (entered (folder_of table.now []) (source_of source.now)) (source_of source.now) (Spelled m.now)))) }
     ensures kinds { IfOk result (λ survey. survey.lowered.kinds ≡ kinds_in
@@ -472,7 +471,6 @@ fn survey_spelled(
 
 /// What is known of a method before it is known which methods are analysed.
 pub fn survey_method(alloc: Global, table: &Table, source: &Source) -> Result<Survey, Memory>
-    requires { IsCounted (source_of source.now) }
     ensures code { IfOk result (λ survey. tree_of survey.lowered.code ≡ numbered 0 (in_sequence
         (method_code (folder_of table.now []) (source_of source.now)))) }
     ensures kinds { IfOk result (λ survey. survey.lowered.kinds

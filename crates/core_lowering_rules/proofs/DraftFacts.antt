@@ -22,7 +22,7 @@ use Rattle.core_lowering_drafts.proofs.Related.{value-missing, value-added, valu
 use Rattle.core_lowering_drafts.proofs.Related.{no-parts, part-alone, lists-joined, of-ops, of-leave, of-never}
 use Rattle.core_lowering_drafts.proofs.Related.{of-choices}
 use Rattle.core_lowering_drafts.proofs.Related.{of-loops, of-locks, of-within, of-endings, of-finally}
-use Rattle.core_lowering_rules.specs.Context.{lock_at}
+use Rattle.core_lowering_drafts.specs.Sites.{lock_at}
 use Rattle.core_lowering_rules.proofs.LoweredFacts.{Tests, Fact, is_named, is_value}
 
 -- ---- whether code can end

@@ -23,8 +23,8 @@ use Rattle.core_code.specs.Calls.{method_at}
 use Rattle.core_code.specs.Facts.{is_place, is_class, is_kind, is_method, is_op, is_code}
 use Rattle.core_code.proofs.InRange.{then_in_range, held_in_range}
 use Rattle.core_lowering_drafts.specs.Only.{Code, one as one_op}
-use Rattle.core_lowering_rules.specs.Context.{lock_at}
-use Rattle.core_lowering_rules.specs.Sites.{numbered}
+use Rattle.core_lowering_drafts.specs.Sites.{lock_at}
+use Rattle.core_lowering_drafts.specs.Sites.{numbered}
 use Rattle.core_lowering_rules.proofs.NumberedTrees.{SiteFact, same-numbered}
 use Rattle.core_lowering_rules.proofs.LoweredFacts.{Tests, is_named}
 use Rattle.core_lowering_rules.proofs.DraftFacts.{CoreFact}

@@ -25,7 +25,8 @@ use Rattle.core_lowering_drafts.proofs.Related.{CodeFact, Such, such-met, Relate
 use Rattle.core_lowering_drafts.proofs.Related.{part-alone, lists-joined, related-code, of-ops, of-leave, of-never}
 use Rattle.core_lowering_drafts.proofs.Related.{of-choices}
 use Rattle.core_lowering_drafts.proofs.Related.{of-loops, of-within, of-endings, of-finally, value-alone}
-use Rattle.core_lowering_rules.specs.Context.{Code, lock_at, choice, repeated, held, within, ending, guarded, made}
+use Rattle.core_lowering_rules.specs.Context.{Code, choice, repeated, held, within, ending, guarded, made}
+use Rattle.core_lowering_drafts.specs.Sites.{lock_at}
 use Rattle.core_lowering_rules.specs.Context.{ends_of}
 use Rattle.core_lowering_rules.proofs.FoundElements.{Each}
 use Rattle.core_lowering_rules.proofs.Runs.{TreesRun, no_trees, trees_followed, tree_once, trees_chosen, trees_looped}

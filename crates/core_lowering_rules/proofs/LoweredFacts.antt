@@ -24,7 +24,8 @@ use Rattle.core_code.specs.Tree.{Tree, can_end, in_sequence}
 use Rattle.core_code.specs.Tree as tree
 use Rattle.core_lowering_drafts.specs.Drafts.{Part, Leave, Within, Never, Ending, Behind, in_order, Ends, Normal}
 use Rattle.core_lowering_drafts.specs.Drafts.{Exit, has, is_same, op_end}
-use Rattle.core_lowering_rules.specs.Context.{Context, Folder, Code, ends_of, op_at, choice, repeated, held, lock_at}
+use Rattle.core_lowering_rules.specs.Context.{Context, Folder, Code, ends_of, op_at, choice, repeated, held}
+use Rattle.core_lowering_drafts.specs.Sites.{lock_at}
 use Rattle.core_lowering_rules.specs.Context.{within, ending, guarded, made}
 use Rattle.core_lowering_rules.proofs.FoundElements.{Each}
 

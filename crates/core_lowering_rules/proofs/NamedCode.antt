@@ -16,7 +16,7 @@ use Rattle.core_lowering_drafts.specs.Only.{Code, one, fork}
 use Rattle.core_lowering_rules.specs.Context.{Context, Folder}
 use Rattle.core_lowering_rules.specs.Methods.{Source, entered, method_code}
 use Rattle.core_lowering_rules.specs.Programs.{method_cores, statuses_from}
-use Rattle.core_lowering_rules.specs.Sites.{numbered}
+use Rattle.core_lowering_drafts.specs.Sites.{numbered}
 use Rattle.core_lowering_rules.proofs.FoundElements.{Each}
 use Rattle.core_lowering_rules.proofs.NumberedTrees.{ops-numbered}
 use Rattle.core_lowering_rules.proofs.LoweredFacts.{Tests, Grounded}

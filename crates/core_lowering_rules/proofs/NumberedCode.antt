@@ -23,7 +23,7 @@ use Rattle.racer_base.specs.declared.ids.Kind.TheVariants as types
 use Rattle.core_lowering_rules.specs.Context.{Context, Guard, Result, Itself, Nothing, Value, Code, op, made}
 use Rattle.core_lowering_rules.specs.Statements.{returned, returned_nothing}
 use Rattle.core_lowering_rules.specs.Methods.{ended}
-use Rattle.core_lowering_rules.specs.Sites.{numbered}
+use Rattle.core_lowering_drafts.specs.Sites.{numbered}
 use Rattle.core_lowering_rules.proofs.NumberedTrees.{SiteFact, same-numbered, ops-numbered}
 use Rattle.core_lowering_rules.proofs.Runs.{part_right, then-agree}
 use Rattle.core_lowering_rules.proofs.DraftFacts.{can_end-append}

@@ -25,7 +25,7 @@ use Rattle.java_tree.specs.declared.methods.ParameterTree.{ParameterTree}
 use Rattle.java_tree.specs.View.{ty_of}
 use Rattle.core_lowering_rules.specs.Context.{Context, Folder, made, type_kind}
 use Rattle.core_lowering_rules.specs.Scopes.{declared}
-use Rattle.core_lowering_rules.specs.Sites.{numbered}
+use Rattle.core_lowering_drafts.specs.Sites.{numbered}
 use Rattle.core_lowering_rules.specs.Methods.{Body, Default, Spelled, Unspelled, Source, entered, fields_begun}
 use Rattle.core_lowering_rules.specs.Methods.{parameters_declared, is_large, is_past, is_past_limit, ended}
 use Rattle.core_lowering_rules.specs.Methods.{spelled_code, method_code}

@@ -28,7 +28,8 @@ use Rattle.core_lowering_drafts.specs.Drafts.{Normal, is_same, op_end, in_order}
 use Rattle.core_lowering_drafts.specs.Only.{Code as Trees, one, fork, loop_of}
 use Rattle.core_lowering_drafts.specs.Plain.{plain_code}
 use Rattle.core_lowering_drafts.proofs.Steady.{is_steady, steady-append, plain-append}
-use Rattle.core_lowering_rules.specs.Context.{Context, Code, op_at, op, choice, lock_at, converted}
+use Rattle.core_lowering_rules.specs.Context.{Context, Code, op_at, op, choice, converted}
+use Rattle.core_lowering_drafts.specs.Sites.{lock_at}
 use Rattle.core_lowering_rules.proofs.Suits.{Suits, class_equal}
 
 -- what goes on from a value that is there

@@ -30,7 +30,7 @@ use Rattle.core_code.specs.Tree.{in_sequence}
 use Rattle.core_lowering_drafts.specs.Only.{Code}
 use Rattle.core_lowering_rules.specs.Context.{Folder}
 use Rattle.core_lowering_rules.specs.Methods.{Source, this_kinds}
-use Rattle.core_lowering_rules.specs.Sites.{numbered}
+use Rattle.core_lowering_drafts.specs.Sites.{numbered}
 use Rattle.core_lowering_rules.specs.Programs.{class_sources, sources_of, status_of, declared_in, statuses_from}
 use Rattle.core_lowering_rules.specs.Programs.{folder_of}
 use Rattle.core_lowering_rules.specs.Programs.{class_core, field_core, method_core, method_cores, skipped_member}

@@ -1,5 +1,5 @@
 -- Methods that are the same have the same code and variables.
-use Rattle.std.proofs.Common.{◌≡◌, ℕ, Bool, false, not, length, ◌||◌, cond, List, [], ◌∷◌, ◌++◌, codes, map}
+use Rattle.std.proofs.Common.{◌≡◌, ℕ, Bool, false, not, ◌||◌, cond, List, [], ◌∷◌, ◌++◌, codes, map}
 use Rattle.std.proofs.Common.{refl, ap, ap₂, sym, ◌∙◌, subst}
 use Rattle.std.specs.List.{AllZip, flat_map, list_any}
 use Rattle.racer_base.specs.declared.ids.ClassId.{ClassId}
@@ -35,12 +35,11 @@ use Rattle.core_lowering_rules.specs.Methods.{Body, Default, Spelled, Unspelled,
 use Rattle.core_lowering_rules.specs.Methods.{parameters_declared, field_begun, member_begun, fields_begun, body_of}
 use Rattle.core_lowering_rules.specs.Methods.{block_code, none_analysed, is_large, is_past, is_past_limit, end_of}
 use Rattle.core_lowering_rules.specs.Methods.{is_apart}
-use Rattle.core_lowering_rules.specs.Methods.{locked, body_code, ended, spelled_code, code_in, method_code, kinds_in}
-use Rattle.core_lowering_rules.specs.Methods.{method_kinds, has_other_lock}
+use Rattle.core_lowering_rules.specs.Methods.{locked, ended, spelled_code, code_in, method_code, kinds_in}
+use Rattle.core_lowering_rules.specs.Methods.{method_kinds}
 use Rattle.core_lowering_drafts.specs.Only.{Code as Trees}
 use Rattle.core_lowering_drafts.specs.Sizes.{is_small}
 use Rattle.core_code.specs.Tree.{in_sequence}
-use Rattle.java_tree.specs.Spelling.{spelling}
 use Rattle.core_lowering_rules.specs.Methods as methods
 use Rattle.core_lowering_rules.specs.Programs.{member_sources, default_sources, class_sources, is_unspelled, is_outside}
 use Rattle.core_code.specs.declared.code.Op.TheVariants.{Drop}
@@ -164,8 +163,8 @@ spelled-alike context xs ys h m n same body =
 
 large-alike : (context : Context) (m n : MethodTree) → SameMethod m n → is_large context m ≡ is_large context n
 large-alike context m n k =
-    ap₂ (λ (v : view.Method) ss. not (is_small (length (spelling v))
-    (in_sequence (block_code (none_analysed context) ss)))) k.0 (same_body m n k.0 k.1)
+    ap₂ (λ (n : ℕ) ss. not (is_small n (in_sequence (block_code (none_analysed context) ss)))) k.3
+    (same_body m n k.0 k.1)
 
 code-alike : (context : Context) (s t : Source) → AllZip SameMember s.members t.members → (x y : Body) → SameBody x y
     → code_in context s x ≡ code_in context t y

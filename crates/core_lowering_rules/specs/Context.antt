@@ -20,10 +20,11 @@ use Rattle.core_code.specs.declared.code.Op.{Op as CoreOp}
 use Rattle.core_code.specs.declared.code.Op.TheVariants.{Push, PushClass, Outside}
 use Rattle.core_code.specs.declared.code.Reason.{Reason}
 use Rattle.core_code.specs.declared.code.LockKind.{LockKind}
-use Rattle.core_code.specs.Tree.{LockAt, Tree}
+use Rattle.core_code.specs.Tree.{Tree}
 use Rattle.core_lowering_drafts.specs.Drafts.{Part, Op, Choice, Loop, Sync, Within, Ending, Behind, in_order}
 use Rattle.core_lowering_drafts.specs.Drafts.{Normal, Exit, Ends, ends, has, is_same}
 use Rattle.core_lowering_drafts.specs.Only as draft
+use Rattle.core_lowering_drafts.specs.Sites.{lock_at}
 use Rattle.core_lowering_rules.specs.ValueKinds.{ValueKind, is_converted}
 
 -- ---- what code stands in
@@ -109,10 +110,6 @@ repeated body = Loop (in_order body) ∷ []
 -- once at least
 abbrev pub again : Code → Code
 again body = body ++ repeated body
-
--- the monitor of an object, or its explicit lock, locked at this place
-abbrev pub lock_at : LockKind → Place → LockAt
-lock_at kind place = record { place = place; kind = kind }
 
 abbrev pub held : LockKind → Place → Code → Code
 held kind place body = Sync (lock_at kind place) (in_order body) ∷ []

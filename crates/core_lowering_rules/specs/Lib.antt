@@ -11,7 +11,6 @@ pub mod Locks
 pub mod Scopes
 pub mod Statements
 pub mod Methods
-pub mod Sites
 pub mod Programs
 pub mod ByField
 pub mod ProgramExamples

@@ -1,5 +1,5 @@
 -- A contract of a public call rests on this: the code of methods and constructors (JLS 8.3.2, 8.4, 8.8, 12.5).
-use Rattle.std.specs.Prelude.{Bool, true, false, not, List, [], ◌∷◌, ◌++◌, None, codes, map, length}
+use Rattle.std.specs.Prelude.{Bool, true, false, not, List, [], ◌∷◌, ◌++◌, None, codes, map}
 use Rattle.std.specs.Prelude.{if◌then◌else◌}
 use Rattle.std.specs.List.{flat_map}
 use Rattle.racer_base.specs.declared.ids.Kind.{Kind}
@@ -12,8 +12,7 @@ use Rattle.java_tree.specs.declared.methods.MethodTree.{MethodTree}
 use Rattle.java_tree.specs.declared.methods.ParameterTree.{ParameterTree}
 use Rattle.java_tree.specs.declared.methods.ResultTree.{ResultTree}
 use Rattle.java_tree.specs.declared.methods.ResultTree.TheVariants as result
-use Rattle.java_tree.specs.Spelling.{spelling}
-use Rattle.java_tree.specs.View.{ty_of, method_of}
+use Rattle.java_tree.specs.View.{ty_of}
 use Rattle.java_tree.specs.declared.unit.Member.{Member}
 use Rattle.java_tree.specs.declared.unit.Member.TheVariants as member
 use Rattle.java_resolver.specs.declared.infos.MethodInfo.{MethodInfo}
@@ -27,7 +26,8 @@ use Rattle.core_lowering_drafts.specs.Sizes.{is_small}
 use Rattle.core_lowering_rules.specs.Trees.{Stmts, pack_stmts}
 use Rattle.core_lowering_rules.specs.TreesOf.{init_of, stmt_of}
 use Rattle.core_lowering_rules.specs.ValueKinds.{ValueKind, Of}
-use Rattle.core_lowering_rules.specs.Context.{Folder, Context, Result, Itself, Nothing, Value, Code, op, made, lock_at}
+use Rattle.core_lowering_rules.specs.Context.{Folder, Context, Result, Itself, Nothing, Value, Code, op, made}
+use Rattle.core_lowering_drafts.specs.Sites.{lock_at}
 use Rattle.core_lowering_rules.specs.Context.{push_owner}
 use Rattle.core_lowering_rules.specs.Context.{type_kind}
 use Rattle.core_lowering_rules.specs.Assignments.{kind_in, of_name, assigned}
@@ -144,11 +144,10 @@ spelled_code context members m =
 abbrev pub none_analysed : Context → Context
 none_analysed context = record context { folder = record context.folder { statuses = [] } }
 
--- whether the code of the block is too large for so many tokens, where no method is analysed: so it does not depend on
--- which methods are
+-- whether the code of the block is too large for the tokens of the method, whose tree keeps how many they are: told where
+-- no method is analysed, so that it does not depend on which methods are
 abbrev pub is_large : Context → MethodTree → Bool
-is_large context m =
-    not (is_small (length (spelling (method_of m))) (in_sequence (block_code (none_analysed context) (body_of m))))
+is_large context m = not (is_small m.tokens (in_sequence (block_code (none_analysed context) (body_of m))))
 
 abbrev pub code_in : Context → Source → Body → List Tree
 code_in context s Default = ended context (made (fields_begun context s.members))

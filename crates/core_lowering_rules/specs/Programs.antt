@@ -31,7 +31,7 @@ use Rattle.core_code.specs.Chains.{flag_of}
 use Rattle.core_lowering_rules.specs.Context.{Folder}
 use Rattle.core_lowering_rules.specs.Methods.{Body, Default, Unspelled, Source, this_kinds, method_code, method_kinds}
 use Rattle.core_lowering_rules.specs.Methods.{has_other_lock, is_apart, is_past_limit, Spelled}
-use Rattle.core_lowering_rules.specs.Sites.{numbered}
+use Rattle.core_lowering_drafts.specs.Sites.{numbered}
 
 -- ---- methods, in source order
 

@@ -4,15 +4,11 @@ use Rattle.std.proofs.Common.{Option, None, Some, string_bytes}
 use Rattle.std.specs.Option.{IfSome}
 use Rattle.racer_base.specs.Outside.{Told, Files}
 use Rattle.std.specs.Prelude.{IsTrue}
-use Rattle.java_lexer.specs.declared.token.Token.{Token}
 use Rattle.java_tree.specs.declared.unit.Unit as unit
-use Rattle.java_parser_grammar.specs.CountedTokens as counted
-use Rattle.java_parser_grammar.specs.Units.{IsUnit}
 use Rattle.java_resolver.specs.declared.table.Table.{Table}
 use Rattle.core_lowering_rules.specs.Conditions.{are_in_files, are_named}
 use Rattle.core_lowering_conditions.specs.FromTokens.{AreFromTokens}
 use Rattle.core_lowering_rules.specs.Programs.{IsLowered}
-use Rattle.core_lowering.specs.Lowered.{AreCounted}
 use Rattle.core_code.specs.Program.{core}
 use Rattle.racer_sources.specs.declared.refusal.Refusal.TheVariants.{TooManyCalls}
 use Rattle.racer_sources.specs.declared.found.AcceptedSources.{AcceptedSources}
@@ -46,15 +42,6 @@ HaveNames = (units : List unit.Unit) → AreFromTokens 0 units → IsTrue (are_n
 pub names_known : HaveNames → (names : List (List ℕ)) (us : List unit.Unit) (t : Table) → AreKnown names us t
     → IsTrue (are_named us)
 names_known law names us t known = law us (from_tokens 0 us known.read)
-
-abbrev pub KeepCounts : Type 0
-KeepCounts = (tokens : List Token) (u : unit.Unit) → IsUnit tokens u → counted.AreCounted u
-
-pub counts_kept : KeepCounts → (n : ℕ) (us : List unit.Unit) → AreReadSomehow n us → AreCounted us
-counts_kept law n [] h = tt
-counts_kept law n (u ∷ us) h =
-    let is = h.0.2 in
-    (law is.lexed.tokens u is.unit, counts_kept law (suc n) us h.1)
 
 -- what accepted sources are lowered to is what the sources are
 lowered_source : (files : Files) (s : AcceptedSources) (f : FoundProgram) → AreAccepted (contents files) s.units.items

@@ -8,7 +8,6 @@ use crate::{AcceptedSources, FolderSources, Refusal, let_go, refusal_line, sourc
 use core_code::Program;
 use core_lowering::{LowerFault, lower};
 use core_lowering_conditions::laws::{read_units_are_named, read_units_are_placed};
-use java_parser_grammar::laws::tokens_are_counted;
 use racer_base::{Folder, FolderFault, Memory, Text};
 use std::alloc::Global;
 
@@ -27,7 +26,6 @@ fn lowered(alloc: Global, found: &AcceptedSources) -> Result<FoundProgram, Memor
 {
     read_units_are_placed();
     read_units_are_named();
-    tokens_are_counted();
     let names = found.names.as_slice();
     match lower(alloc, &found.table, found.units.as_slice(), names) {
         Ok(program) => Ok(FoundProgram::Accepted(program)),

@@ -21,7 +21,7 @@ ghost use Rattle.core_code.specs.KindCheck.{are_kinded};
 ghost use Rattle.core_code.specs.Names.{are_names_right, do_classes_differ, do_fields_differ, do_methods_differ};
 ghost use Rattle.core_code.specs.Tree.{Skip, Seq, Choice, Loop, in_sequence};
 ghost use Rattle.core_code.specs.Pair.{at, own_sync, step, pair, method_put, method_both};
-ghost use Rattle.core_lowering_rules.specs.Sites.{numbered};
+ghost use Rattle.core_lowering_drafts.specs.Sites.{numbered};
 ghost use Rattle.core_lowering_rules.specs.Programs.{program_of, draft_of, in_order, call_edges};
 ghost use Rattle.core_lowering_rules.specs.ByField.{by_field};
 ghost use Rattle.core_lowering_rules.specs.Conditions.{class_places, are_in_files, are_named};

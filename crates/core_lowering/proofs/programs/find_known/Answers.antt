@@ -1,4 +1,4 @@
-use Rattle.std.proofs.Common.{◌≡◌, List, [], map, ap, subst, sym, ◌∙◌}
+use Rattle.std.proofs.Common.{◌≡◌, List, [], map, ap, ◌∙◌}
 use Rattle.java_resolver.specs.Table.{classes, fields, methods}
 use Rattle.core_lowering_rules.specs.Methods.{Source as SeenSource}
 use Rattle.core_lowering_rules.specs.Programs.{sources_of}
@@ -8,20 +8,10 @@ use Rattle.core_lowering_methods.specs.Views.{folder_of}
 use Rattle.core_lowering.specs.Calls.{row_in}
 use Rattle.core_lowering.specs.Parts.{parts_of, with_infos}
 use Rattle.core_lowering.specs.Reasons.{declared_by, own_reason}
-use Rattle.core_lowering.specs.Surveys.{seen, AreCounted}
-use Rattle.core_lowering.proofs.CountedSources.{sources-counted}
+use Rattle.core_lowering.specs.Surveys.{seen}
 use Rattle.core_lowering.proofs.SamePrograms.{rows-made}
 use Rattle.core_lowering.proofs.SameSources.{sources-made}
 use Rattle.core_lowering.proofs.programs.find_known.Goals as goal
-
-pub find_surveys-requires : goal.find_surveys-requires
-find_surveys-requires c =
-    let units = c.args.units.now in
-    let all : List Source = c.in_ok-sources.sources.items in
-    let same : map source_of all ≡ sources_of units =
-    c.in_ok-sources.ensures ∙ ap (with_infos (parts_of units)) (c.methods.ensures ∙ c.requires.methods)
-    ∙ sources-made units in
-    subst AreCounted (sym c.as_slice.ensures.value) (sources-counted units all same c.requires.counted)
 
 pub returns-clause-known : goal.returns-clause-known
 returns-clause-known c =

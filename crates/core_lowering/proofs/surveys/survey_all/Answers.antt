@@ -1,11 +1,10 @@
 use Rattle.std.proofs.Common.{◌≡◌, List, [], ◌∷◌, ◌++◌, Option, map, refl, ap, subst, sym, ◌∙◌}
 use Rattle.std.specs.List.{All}
 use Rattle.std.proofs.lemmas.List.{map-append}
-use Rattle.std.proofs.lemmas.List.Elements.{All-nil, All-cons, All-append, All-get_or}
+use Rattle.std.proofs.lemmas.List.Elements.{All-nil, All-cons, All-append}
 use Rattle.racer_base.specs.declared.ids.MethodId.{MethodId}
 use Rattle.racer_base.proofs.Lists.{ended, turn}
 use Rattle.core_code.specs.declared.code.Reason.{Reason}
-use Rattle.core_lowering_methods.specs.Extents.{IsCounted}
 use Rattle.core_lowering_methods.specs.Views.{folder_of}
 use Rattle.core_lowering_methods.specs.declared.sources.Source.{Source}
 use Rattle.core_lowering_methods.specs.Sources.{source_of}
@@ -14,12 +13,6 @@ use Rattle.core_lowering.specs.Calls.{row_in}
 use Rattle.core_lowering.specs.Reasons.{declared_by, own_reason}
 use Rattle.core_lowering.specs.Surveys.{seen, IsRight}
 use Rattle.core_lowering.proofs.surveys.survey_all.Goals as goal
-
-pub survey-requires-clause-counted : goal.survey-requires-clause-counted
-survey-requires-clause-counted c =
-    subst (λ (s : Source). IsCounted (source_of s)) (sym c.source-item.is)
-    (All-get_or (λ (s : Source). IsCounted (source_of s)) c.args.sources.now c.loop-source.source-index
-    c.source-item.result c.loop-source-test.true c.requires.counted)
 
 pub loop-source-preserved : goal.loop-source-preserved
 loop-source-preserved c =

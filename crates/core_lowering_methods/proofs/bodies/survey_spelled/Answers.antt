@@ -18,8 +18,8 @@ returns-clause-extent c =
     let folder = folder_of c.args.table.now [] in
     let source = source_of c.args.source.now in
     let m = c.args.m.now in
-    measured-past folder source m (is_past c.in_ok-measured.measured.extent) m.tokens c.in_ok-parts.parts.block
-    c.in_ok-measured.ensures.extent c.requires
+    measured-past folder source m (is_past c.in_ok-measured.measured.extent) c.in_ok-parts.parts.block
+    c.in_ok-measured.ensures.extent
     (c.in_ok-parts.ensures.block
     ∙ ap (λ (x : Context). closed x (after_all x (body_of m)) (stmts x (body_of m))) c.in_ok-context.ensures)
 
@@ -30,8 +30,7 @@ returns-clause-code c =
     let m = c.args.m.now in
     let parts = c.in_ok-parts.parts in
     let past : is_past c.in_ok-measured.measured.extent ≡ is_large (inside folder source m) m =
-    measured-past folder source m (is_past c.in_ok-measured.measured.extent) m.tokens parts.block
-    c.in_ok-measured.ensures.extent c.requires
+    measured-past folder source m (is_past c.in_ok-measured.measured.extent) parts.block c.in_ok-measured.ensures.extent
     (c.in_ok-parts.ensures.block
     ∙ ap (λ (x : Context). closed x (after_all x (body_of m)) (stmts x (body_of m))) c.in_ok-context.ensures) in
     spelled-made folder source m (is_past c.in_ok-measured.measured.extent) c.args.source.now.info.now.place

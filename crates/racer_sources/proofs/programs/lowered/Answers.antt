@@ -5,8 +5,8 @@ use Rattle.core_lowering_rules.specs.Conditions.{are_in_files, are_named}
 use Rattle.racer_base.specs.declared.limits.TheConstants.{MAX_CALL_EDGES}
 use Rattle.core_code.specs.Program.{core}
 use Rattle.core_lowering_rules.specs.Programs.{IsLowered}
-use Rattle.core_lowering.specs.Lowered.{calls_of, AreCounted}
-use Rattle.racer_sources.proofs.Conditions.{placed, names_known, counts_kept}
+use Rattle.core_lowering.specs.Lowered.{calls_of}
+use Rattle.racer_sources.proofs.Conditions.{placed, names_known}
 use Rattle.racer_sources.proofs.programs.lowered.Goals as goal
 
 pub lower-requires-clause-placed : goal.lower-requires-clause-placed
@@ -25,11 +25,6 @@ lower-requires-clause-named c =
     subst (λ (us : List unit.Unit). IsTrue (are_named us)) (sym c.as_slice.ensures.value)
     (names_known c.read_units_are_named.ensures
     (map string_bytes found.names.items) found.units.items found.table c.requires)
-
-pub lower-requires-clause-counted : goal.lower-requires-clause-counted
-lower-requires-clause-counted c =
-    subst AreCounted (sym c.as_slice.ensures.value)
-    (counts_kept c.tokens_are_counted.ensures 0 c.args.found.now.units.items c.requires.read)
 
 pub returns-in-Ok : goal.returns-in-Ok
 returns-in-Ok c =
