@@ -1,4 +1,4 @@
-use Rattle.std.proofs.Common.{◌≡◌, List, [], map, ap, ◌∙◌}
+use Rattle.std.proofs.Common.{◌≡◌, List, [], map, ap, sym, ◌∙◌}
 use Rattle.java_resolver.specs.Table.{classes, fields, methods}
 use Rattle.core_lowering_rules.specs.Methods.{Source as SeenSource}
 use Rattle.core_lowering_rules.specs.Programs.{sources_of}
