@@ -8,8 +8,8 @@ use Rattle.java_tree.specs.declared.unit.Member.TheVariants as member
 use Rattle.java_resolver.specs.declared.infos.MethodInfo.{MethodInfo}
 use Rattle.java_resolver.specs.Declarations.{member_is_constructor}
 use Rattle.core_lowering_rules.specs.Methods.{Body, Default, Spelled, Unspelled, Source}
-use Rattle.core_lowering_methods.specs.declared.sources.Body.{Body as CodeBody}
-use Rattle.core_lowering_methods.specs.Sources.{body_of}
+use Rattle.core_lowering_context.specs.declared.sources.Body.{Body as CodeBody}
+use Rattle.core_lowering_context.specs.Sources.{body_of}
 use Rattle.core_lowering.specs.declared.sources.Part.{Part}
 
 -- the members of the class of a method, and its body

@@ -10,7 +10,7 @@ use Rattle.core_code.specs.declared.code.Reason.TheVariants.{Recursive}
 use Rattle.core_lowering_rules.specs.Context.{Folder}
 use Rattle.core_lowering_rules.specs.Methods.{Source, is_past_limit}
 use Rattle.core_lowering_rules.specs.Programs.{is_outside, is_overloaded, local_count, where_so}
-use Rattle.core_lowering_methods.specs.Views.{folder_of}
+use Rattle.core_lowering_context.specs.Views.{folder_of}
 
 -- the first that applies, of these tests and numbers
 abbrev pub first_of : (is_overload is_outside : Bool) → (parameters locals : ℕ) → (is_past : Bool) → Option Reason

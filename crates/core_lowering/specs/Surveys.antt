@@ -3,8 +3,8 @@ use Rattle.std.specs.Prelude.{◌≡◌, []}
 use Rattle.java_resolver.specs.declared.table.Table.{Table}
 use Rattle.core_lowering_rules.specs.Methods.{Source, is_past_limit}
 use Rattle.core_lowering_methods.specs.Extents.{is_past}
-use Rattle.core_lowering_methods.specs.Sources.{source_of}
-use Rattle.core_lowering_methods.specs.Views.{folder_of}
+use Rattle.core_lowering_context.specs.Sources.{source_of}
+use Rattle.core_lowering_context.specs.Views.{folder_of}
 use Rattle.core_lowering.specs.declared.surveys.Surveyed.{Surveyed}
 
 abbrev pub seen : Surveyed → Source

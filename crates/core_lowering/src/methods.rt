@@ -3,7 +3,7 @@ ghost use Rattle.std.specs.Prelude.{◌≡◌, IfOk, map};
 ghost use Rattle.std.specs.List.{All};
 ghost use Rattle.core_code.specs.Core.{method_of};
 ghost use Rattle.core_lowering_rules.specs.Programs as wanted;
-ghost use Rattle.core_lowering_methods.specs.Views.{folder_of};
+ghost use Rattle.core_lowering_context.specs.Views.{folder_of};
 ghost use Rattle.core_lowering.specs.Entries.{is_checked_in, is_entry_in};
 ghost use Rattle.core_lowering.specs.Surveys.{seen, IsRight};
 

@@ -13,7 +13,7 @@ ghost use Rattle.java_resolver.specs.Table as seen;
 ghost use Rattle.core_lowering_rules.specs.Conditions.{are_in_files, are_named};
 ghost use Rattle.core_lowering_rules.specs.Programs as wanted;
 ghost use Rattle.core_lowering_rules.specs.Programs.{draft_of, IsLowered};
-ghost use Rattle.core_lowering_methods.specs.Views.{folder_of};
+ghost use Rattle.core_lowering_context.specs.Views.{folder_of};
 ghost use Rattle.core_lowering.specs.Calls.{are_rows_low};
 ghost use Rattle.core_lowering.specs.Known.{IsKnown};
 ghost use Rattle.core_lowering.specs.Lowered.{calls_of, IsFault};

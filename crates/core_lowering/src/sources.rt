@@ -1,11 +1,11 @@
 //! What methods are made of, in source order.
 ghost use Rattle.std.specs.Prelude.{◌≡◌, ◌++◌, ◌∷◌, [], IfOk, OnOk, map};
 ghost use Rattle.std.specs.List.{flat_map};
-ghost use Rattle.core_lowering_methods.specs.Sources.{source_of};
+ghost use Rattle.core_lowering_context.specs.Sources.{source_of};
 ghost use Rattle.core_lowering.specs.Parts as wanted;
 ghost use Rattle.core_lowering.specs.Parts.{part_of};
 
-use core_lowering_methods::{Body, Source};
+use core_lowering_context::{Body, Source};
 use java_resolver::{MethodInfo, any_is_constructor};
 use java_tree::{ClassTree, Member, Unit};
 use racer_base::Memory;

@@ -6,13 +6,14 @@ ghost use Rattle.core_lowering_rules.specs.Methods.{this_kinds};
 ghost use Rattle.core_lowering_rules.specs.Programs.{is_unspelled};
 ghost use Rattle.core_lowering_rules.specs.Programs as wanted_program;
 ghost use Rattle.core_lowering_methods.specs.Extents as seen;
-ghost use Rattle.core_lowering_methods.specs.Sources.{body_of};
+ghost use Rattle.core_lowering_context.specs.Sources.{body_of};
 ghost use Rattle.core_lowering.specs.Counts.{AreCounts};
 ghost use Rattle.core_lowering.specs.Reasons as wanted;
 
 use crate::counts::is_overloaded;
 use core_code::Reason;
-use core_lowering_methods::{Body, Extent, Source, Survey};
+use core_lowering_context::{Body, Source};
+use core_lowering_methods::{Extent, Survey};
 use java_resolver::{MethodInfo, Table};
 use racer_base::{MAX_LOCALS, MAX_PARAMETERS, Memory};
 use std::alloc::Global;

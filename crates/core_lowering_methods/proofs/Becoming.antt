@@ -2,7 +2,7 @@
 use Rattle.std.proofs.Common.{◌≡◌, ℕ, Bool, ◌&&◌, ◌++◌, length, take, drop, ap, ◌∙◌, append_assoc}
 use Rattle.core_lowering_rules.specs.Context.{Code}
 use Rattle.core_lowering_methods.specs.StatementSteps.{Becomes, broken_at}
-use Rattle.core_lowering_methods.proofs.Pieces.{two_pieces, before_seam, behind_seam}
+use Rattle.core_lowering_context.proofs.Pieces.{two_pieces, before_seam, behind_seam}
 
 pub becomes : (at : ℕ) (f : Code → Code) (old new : Code) → new ≡ take at old ++ f (drop at old) →
     Becomes at f old new

@@ -1,7 +1,7 @@
 -- The code of choices out of the steps in which it is made.
 use Rattle.std.proofs.Common.{◌≡◌, ℕ, [], ◌++◌, length, take, drop, sym, ap, ◌∙◌, append-nil}
 use Rattle.core_lowering_rules.specs.Context.{Code, choice}
-use Rattle.core_lowering_methods.proofs.Pieces.{two_pieces, before_seam, behind_seam}
+use Rattle.core_lowering_context.proofs.Pieces.{two_pieces, before_seam, behind_seam}
 
 -- what is made of the parts from one on and of those from another
 abbrev pub chosen : ℕ → ℕ → Code → Code

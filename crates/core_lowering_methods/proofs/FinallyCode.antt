@@ -7,7 +7,7 @@ use Rattle.core_lowering_rules.specs.Scopes.{after_last}
 use Rattle.core_lowering_rules.specs.Statements.{kept_null, last_of}
 use Rattle.core_lowering_methods.specs.StatementSteps.{Becomes, BothBecome, guarded_by}
 use Rattle.core_lowering_methods.proofs.Inside.{inside-same, inside-after_last}
-use Rattle.core_lowering_methods.proofs.Pieces.{before_seam, behind_seam}
+use Rattle.core_lowering_context.proofs.Pieces.{before_seam, behind_seam}
 
 null-alike : (p q : Place) → p ≡ q → (a b : Context) → a.place ≡ p → b.place ≡ q → (o : Option VarId) (x : Code) →
     kept_null a o x ≡ kept_null b o x

@@ -19,7 +19,7 @@ use Rattle.core_lowering_rules.specs.Scopes.{after_return, after_last, with_reso
 use Rattle.core_lowering_rules.specs.Statements.{closed}
 use Rattle.core_lowering_rules.proofs.ScopeSteps.{Sides, with_sides, return_in, ScopeFact, goes-after, goes-after_all}
 use Rattle.core_lowering_rules.proofs.ScopeSteps.{goes-groups, goes-started, goes-resources}
-use Rattle.core_lowering_methods.specs.Parts.{left_at}
+use Rattle.core_lowering_context.specs.Beginning.{left_at}
 use Rattle.core_lowering_methods.specs.StatementSteps.{closed_from}
 
 pub record Inside (before inside : Context) : Type 0 where

@@ -14,7 +14,7 @@ use Rattle.core_lowering_rules.specs.Scopes.{out_of_guard, returned_variable, wi
 use Rattle.core_lowering_rules.specs.Scopes.{with_resource, with_resources, unlocked_in, after, after_all, after_groups}
 use Rattle.core_lowering_rules.specs.Scopes.{caught_behind}
 use Rattle.core_lowering_rules.proofs.ScopeSteps.{return_in}
-use Rattle.core_lowering_methods.specs.Restored.{left_target}
+use Rattle.core_lowering_context.specs.Restored.{left_target}
 
 -- jumps lead where they led
 abbrev pub Level : (before inside : Context) → Type 0

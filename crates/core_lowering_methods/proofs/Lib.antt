@@ -1,13 +1,5 @@
-pub mod AccessParts
-pub mod CallParts
-pub mod Joined
-pub mod Made
-pub mod NamedVariables
-pub mod OtherForms
-pub mod ExpressionForms
 pub mod Inside
 pub mod Levels
-pub mod Pieces
 pub mod Becoming
 pub mod OptionsMade
 pub mod GroupsFallen
@@ -17,10 +9,5 @@ pub mod LoopCode
 pub mod SwitchCode
 pub mod FinallyCode
 pub mod TryCode
-pub mod FieldsBegun
 pub mod Choices
-pub mod Fronts
 pub mod MethodCode
-pub mod Borders
-pub mod FallsThrough
-pub mod Innermost

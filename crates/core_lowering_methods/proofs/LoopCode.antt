@@ -15,7 +15,7 @@ use Rattle.core_lowering_methods.specs.declared.rounds.Round.{Round}
 use Rattle.core_lowering_methods.specs.StatementSteps.{Becomes, closed_from, entered_for, turned, broken_at, while_loop}
 use Rattle.core_lowering_methods.specs.StatementSteps.{do_loop, for_loop, each_loop, next_element, elements}
 use Rattle.core_lowering_methods.proofs.Becoming.{becomes, grown, grown-behind}
-use Rattle.core_lowering_methods.proofs.Pieces.{two_pieces, before_seam, behind_seam}
+use Rattle.core_lowering_context.proofs.Pieces.{two_pieces, before_seam, behind_seam}
 use Rattle.core_lowering_methods.proofs.StatementCode.{broken-there, block-made}
 use Rattle.core_lowering_methods.proofs.StatementContexts.{inside-for, inside-each}
 

@@ -19,9 +19,10 @@ use Rattle.core_lowering_rules.specs.Methods.{Source, Default, Spelled, entered,
 use Rattle.core_lowering_rules.specs.Methods.{fields_begun, body_of, block_code, locked, ended, spelled_code}
 use Rattle.core_lowering_rules.specs.Methods.{none_analysed, is_large, code_in}
 use Rattle.core_lowering_drafts.specs.Sites.{numbered}
-use Rattle.core_lowering_methods.specs.Bodies.{inside, object_begun, owner_pushed, under_lock, with_end, whole_code}
+use Rattle.core_lowering_context.specs.Beginning.{inside}
+use Rattle.core_lowering_methods.specs.Bodies.{object_begun, owner_pushed, under_lock, with_end, whole_code}
 use Rattle.core_lowering_methods.specs.Bodies.{kept_code}
-use Rattle.core_lowering_methods.specs.Parts.{left_at}
+use Rattle.core_lowering_context.specs.Beginning.{left_at}
 
 -- ---- parameters
 

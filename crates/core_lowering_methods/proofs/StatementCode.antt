@@ -8,7 +8,7 @@ use Rattle.core_code.specs.declared.code.Op.TheVariants.{Drop, Set, Ret}
 use Rattle.core_lowering_drafts.specs.Drafts.{has, Exit, Leave}
 use Rattle.core_lowering_rules.specs.Context.{Context, Guard, Code, ends_of, held, op_at}
 use Rattle.core_lowering_rules.specs.Statements.{broken, sent_back, variable_in, closed}
-use Rattle.core_lowering_methods.specs.Restored.{sent_to}
+use Rattle.core_lowering_context.specs.Restored.{sent_to}
 use Rattle.core_lowering_methods.specs.StatementSteps.{Becomes, closed_from, broken_at, sent_by}
 use Rattle.core_lowering_methods.proofs.Becoming.{becomes, grown-behind}
 use Rattle.core_lowering_methods.proofs.Inside.{Inside, closed-there}

@@ -13,9 +13,9 @@ use Rattle.core_lowering_rules.specs.Scopes.{declared, started, back_in, back_fr
 use Rattle.core_lowering_rules.specs.Scopes.{in_labelled, out_of_guard, with_resources, unlocked_in, after, after_all}
 use Rattle.core_lowering_rules.specs.Scopes.{after_groups, caught, caught_behind}
 use Rattle.core_lowering_rules.proofs.ScopeSteps.{sides_of}
-use Rattle.core_lowering_methods.specs.Parts.{left_at, passed_by}
-use Rattle.core_lowering_methods.specs.Restored.{left_target, left_guard, kept, restored}
-use Rattle.core_lowering_methods.specs.StatementSteps.{behind_first}
+use Rattle.core_lowering_context.specs.Beginning.{left_at}
+use Rattle.core_lowering_context.specs.Restored.{left_target, left_guard, kept, restored}
+use Rattle.core_lowering_methods.specs.StatementSteps.{behind_first, passed_by}
 use Rattle.core_lowering_methods.proofs.Inside.{Inside, inside-same, inside-then, inside-sides, inside-declared}
 use Rattle.core_lowering_methods.proofs.Inside.{inside-back, inside-started, inside-after, inside-after_all}
 use Rattle.core_lowering_methods.proofs.Inside.{inside-after_groups, inside-resources, left-back}

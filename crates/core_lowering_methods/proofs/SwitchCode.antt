@@ -7,7 +7,7 @@ use Rattle.core_lowering_rules.specs.Statements.{run, stmt, options}
 use Rattle.core_lowering_methods.specs.StatementSteps.{Becomes, closed_from, fork_of}
 use Rattle.core_lowering_methods.proofs.Becoming.{grown-behind}
 use Rattle.core_lowering_methods.proofs.Inside.{closed-there}
-use Rattle.core_lowering_methods.proofs.Pieces.{before_seam, behind_seam}
+use Rattle.core_lowering_context.proofs.Pieces.{before_seam, behind_seam}
 use Rattle.core_lowering_methods.proofs.StatementContexts.{inside-switch}
 
 -- what is taken is what was put behind

@@ -12,11 +12,11 @@ use Rattle.core_lowering_rules.specs.Scopes.{after_all, after_last, caught, retu
 use Rattle.core_lowering_rules.specs.Statements.{closed, begun_resources, stmt, stmts, last_of}
 use Rattle.core_lowering_locks.specs.Seen.{body_of, clauses_of, resources_in}
 use Rattle.core_lowering_locks.proofs.JoinedStatements.{try-form}
-use Rattle.core_lowering_methods.specs.Restored.{left_guard}
+use Rattle.core_lowering_context.specs.Restored.{left_guard}
 use Rattle.core_lowering_methods.specs.StatementSteps.{Becomes, BothBecome, closed_from, behind_first, first_part}
 use Rattle.core_lowering_methods.specs.StatementSteps.{guarded_by}
 use Rattle.core_lowering_methods.proofs.FinallyCode.{null-there}
-use Rattle.core_lowering_methods.proofs.Pieces.{two_pieces}
+use Rattle.core_lowering_context.proofs.Pieces.{two_pieces}
 use Rattle.core_lowering_methods.proofs.StatementCode.{block-made}
 use Rattle.core_lowering_methods.proofs.StatementContexts.{inside-first, behind_clauses, finally-place, guard-left}
 

@@ -10,15 +10,11 @@ use Rattle.core_code.specs.declared.code.LockKind.TheVariants.{Own}
 use Rattle.core_code.specs.Tree.{Tree, Sync, can_end, in_sequence}
 use Rattle.core_lowering_drafts.specs.declared.written.Stop.{Stop}
 use Rattle.core_lowering_drafts.specs.Sizes.{is_small, TellsSize}
-use Rattle.core_lowering_rules.specs.Context.{Folder, Context, Code, made, push_owner}
+use Rattle.core_lowering_rules.specs.Context.{Context, Code, made, push_owner}
 use Rattle.core_lowering_drafts.specs.Sites.{lock_at}
-use Rattle.core_lowering_rules.specs.Methods.{Source, entered, parameters_declared, member_begun}
+use Rattle.core_lowering_rules.specs.Methods.{member_begun}
 use Rattle.core_lowering_methods.specs.declared.bodies.Limit.{Limit}
 use Rattle.core_lowering_methods.specs.declared.bodies.Limit.TheVariants as limit
-
--- behind the parameters
-abbrev pub inside : Folder → Source → MethodTree → Context
-inside folder s m = parameters_declared (entered folder s) m.parameters
 
 -- of a constructor, the fields of its object, without variables in scope
 abbrev pub object_begun : Context → List Member → MethodTree → Code

@@ -1,7 +1,9 @@
 -- No public contract rests on this: parts of statements, as the code makes them.
 use Rattle.std.specs.Prelude.{◌≡◌, ℕ, Bool, false, ◌&&◌, List, [], ◌∷◌, ◌++◌, Option, Some, None, length, map}
 use Rattle.std.specs.Prelude.{if◌then◌else◌}
+use Rattle.racer_base.specs.declared.ids.Kind.TheVariants.{Other}
 use Rattle.racer_base.specs.declared.ids.VarId.{VarId}
+use Rattle.java_tree.specs.declared.words.Ident.{Ident}
 use Rattle.java_tree.specs.declared.statements.GroupTree.{GroupTree, out-GroupTree}
 use Rattle.core_code.specs.declared.code.Op.TheVariants.{Outside, Ret}
 use Rattle.core_lowering_drafts.specs.Drafts.{Never, Leave}
@@ -10,14 +12,15 @@ use Rattle.core_lowering_rules.specs.Trees.{group_then}
 use Rattle.core_lowering_rules.specs.Trees.{pack_stmts}
 use Rattle.core_lowering_rules.specs.TreesOf.{stmt_of}
 use Rattle.core_lowering_rules.specs.Context.{Context, Code, op, repeated, again, within, ending, guarded}
-use Rattle.core_lowering_rules.specs.Scopes.{back_in, after_all, started, in_loop, with_resources}
+use Rattle.core_lowering_rules.specs.Locks.{lock_kept}
+use Rattle.core_lowering_rules.specs.Scopes.{back_in, declared, after_all, started, in_loop, with_resources}
 use Rattle.core_lowering_rules.specs.Statements.{run, run_all, start, set, tested, is_endless, broken, one_round}
 use Rattle.core_lowering_rules.specs.Statements.{closed}
 use Rattle.core_lowering_rules.specs.Statements.{stmt, stmts, entered, options, forked, has_default, begun_resources}
 use Rattle.core_lowering_rules.specs.Statements.{last_of, kept_null}
 use Rattle.core_lowering_methods.specs.declared.groups.Options.{Options}
 use Rattle.core_lowering_methods.specs.declared.rounds.Round.{Round}
-use Rattle.core_lowering_methods.specs.Restored.{variables_from}
+use Rattle.core_lowering_context.specs.Restored.{variables_from}
 
 -- the parts from this one on become what is made of them
 abbrev pub Becomes : ℕ → (Code → Code) → Code → Code → Type 0
@@ -128,3 +131,7 @@ first_part context rs ss =
 abbrev pub guarded_by : Context → ℕ → Option VarId → (first finally : Code) → Code
 guarded_by context exit variable first finally =
     kept_null context variable (guarded exit first finally (last_of context variable))
+
+-- behind a catch clause
+abbrev pub passed_by : Context → Ident × Stmts → Context
+passed_by context clause = lock_kept context (after_all (declared context Other clause.0) clause.1)

@@ -1,10 +1,10 @@
 //! The ends of blocks (JLS 14.2).
 ghost use Rattle.std.specs.Prelude.{◌≡◌, OnOk};
-ghost use Rattle.core_lowering_methods.specs.Drafts.{code_of};
-ghost use Rattle.core_lowering_methods.specs.Parts.{left_at};
+ghost use Rattle.core_lowering_context.specs.Drafts.{code_of};
+ghost use Rattle.core_lowering_context.specs.Beginning.{left_at};
 ghost use Rattle.core_lowering_methods.specs.StatementSteps.{Becomes, closed_from};
 
-use crate::{Context, Making};
+use core_lowering_context::{Context, Making};
 use racer_base::Memory;
 use std::alloc::Global;
 

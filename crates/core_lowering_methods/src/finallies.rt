@@ -4,14 +4,14 @@ ghost use Rattle.core_lowering_rules.specs.Trees.{pack_stmts};
 ghost use Rattle.core_lowering_rules.specs.TreesOf.{resource_of, resources_of, stmt_of};
 ghost use Rattle.core_lowering_rules.specs.Scopes.{with_resource, with_resources, after_last, unlocked_in};
 ghost use Rattle.core_lowering_rules.specs.Statements.{begun_resource, begun_resources, last_of, kept_null};
-ghost use Rattle.core_lowering_methods.specs.Drafts.{code_of};
+ghost use Rattle.core_lowering_context.specs.Drafts.{code_of};
 ghost use Rattle.core_lowering_methods.specs.StatementSteps.{Becomes, BothBecome, guarded_by};
 
-use crate::parts::set;
 use crate::returns::end_return;
-use crate::{Context, Making, lower_expression};
 use core_code::Op;
+use core_lowering_context::{Context, Making};
 use core_lowering_drafts::Exit;
+use core_lowering_expressions::{lower_expression, set};
 use core_lowering_locks::do_unlock_any;
 use java_tree::{Apart, ResourceTree, ResourcesTree, Statement};
 use racer_base::{Memory, VarId};

@@ -7,10 +7,10 @@ ghost use Rattle.core_lowering_rules.specs.TreesOf.{label_of, group_of};
 ghost use Rattle.core_lowering_rules.specs.Context.{choice};
 ghost use Rattle.core_lowering_rules.specs.Statements.{entered, forked};
 ghost use Rattle.core_lowering_rules.specs.Statements as wanted;
-ghost use Rattle.core_lowering_methods.specs.Drafts.{code_of};
+ghost use Rattle.core_lowering_context.specs.Drafts.{code_of};
 ghost use Rattle.core_lowering_methods.specs.StatementSteps.{fallen, nothing_entered, fork_of};
 
-use crate::Making;
+use core_lowering_context::Making;
 use core_lowering_drafts::{Draft, Groups, Part, Piece};
 use java_tree::{GroupTree, LabelTree};
 use racer_base::Memory;

@@ -6,10 +6,10 @@ ghost use Rattle.core_lowering_rules.specs.Context.{type_kind};
 ghost use Rattle.core_lowering_rules.specs.Scopes.{next_variable, declared, all_declared, started};
 ghost use Rattle.core_lowering_rules.specs.Statements.{begun, begun_all};
 ghost use Rattle.core_lowering_rules.specs.Statements as lowering;
-ghost use Rattle.core_lowering_methods.specs.Drafts.{code_of};
+ghost use Rattle.core_lowering_context.specs.Drafts.{code_of};
 
-use crate::parts::{lower_run_all, set};
-use crate::{Context, Making, lower_initialiser};
+use core_lowering_context::{Context, Making};
+use core_lowering_expressions::{lower_initialiser, lower_run_all, set};
 use java_tree::{Initialiser, LocalsTree, StartTree, VariableTree};
 use racer_base::{Kind, Memory, VarId};
 use std::alloc::Global;

@@ -9,14 +9,14 @@ ghost use Rattle.core_lowering_rules.specs.Context.{ends_of, within};
 ghost use Rattle.core_lowering_rules.specs.Scopes.{after, in_loop, in_labelled, back_from};
 ghost use Rattle.core_lowering_rules.specs.Scopes as scopes;
 ghost use Rattle.core_lowering_rules.specs.Statements.{stmt, one_round};
-ghost use Rattle.core_lowering_methods.specs.Drafts.{code_of};
+ghost use Rattle.core_lowering_context.specs.Drafts.{code_of};
 ghost use Rattle.core_lowering_methods.specs.StatementSteps.{elements};
 
 use crate::blocks::end_block;
-use crate::parts::lower_run;
 use crate::rounds::{Round, begin_for, end_do, end_for, end_for_each, end_while, lower_next};
 use crate::statements::lower_statement;
-use crate::{Context, Making};
+use core_lowering_context::{Context, Making};
+use core_lowering_expressions::lower_run;
 use java_tree::{Apart, Expression, Ident, StartTree, Statement, TypeTree};
 use racer_base::{Memory, VarId};
 use std::alloc::Global;

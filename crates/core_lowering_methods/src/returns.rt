@@ -3,15 +3,14 @@ ghost use Rattle.std.specs.Prelude.{◌≡◌, ◌++◌, OnOk, None, option_map}
 ghost use Rattle.core_lowering_rules.specs.TreesOf.{expr_of};
 ghost use Rattle.core_lowering_rules.specs.Scopes.{after_return};
 ghost use Rattle.core_lowering_rules.specs.Statements.{returned_nothing, returned_value, returned, sent_back};
-ghost use Rattle.core_lowering_methods.specs.Drafts.{code_of};
-ghost use Rattle.core_lowering_methods.specs.Exits.{sent_seen};
+ghost use Rattle.core_lowering_context.specs.Drafts.{code_of};
+ghost use Rattle.core_lowering_context.specs.Exits.{sent_seen};
 ghost use Rattle.core_lowering_methods.specs.StatementSteps.{sent_by};
-ghost use Rattle.core_lowering_methods.specs.Views.{given_of};
+ghost use Rattle.core_lowering_context.specs.Views.{given_of};
 
-use crate::parts::{lower_run, set};
-use crate::targets::Sent;
-use crate::{Context, Making, MethodResult, lower_expression};
 use core_code::Op;
+use core_lowering_context::{Context, Making, MethodResult, Sent};
+use core_lowering_expressions::{lower_expression, lower_run, set};
 use java_tree::{Apart, Expression};
 use racer_base::{Kind, Memory};
 use std::alloc::Global;

@@ -1,6 +1,6 @@
 use Rattle.std.proofs.Common.{ap, ◌∙◌}
 use Rattle.core_code.specs.Tree.{tree_of}
-use Rattle.core_lowering_methods.specs.Views.{folder_of}
+use Rattle.core_lowering_context.specs.Views.{folder_of}
 use Rattle.core_lowering.specs.Entries.{is_entry_in}
 use Rattle.core_lowering.specs.Surveys.{seen}
 use Rattle.core_lowering.proofs.MethodsMade.{method-made}

@@ -10,7 +10,7 @@ use Rattle.core_code.specs.Core.{Method, method_of}
 use Rattle.core_lowering_rules.specs.Context.{Folder}
 use Rattle.core_lowering_rules.specs.Methods.{Source as SeenSource}
 use Rattle.core_lowering_rules.specs.Programs.{method_core, method_cores}
-use Rattle.core_lowering_methods.specs.Views.{folder_of}
+use Rattle.core_lowering_context.specs.Views.{folder_of}
 use Rattle.core_lowering.specs.declared.surveys.Surveyed.{Surveyed}
 use Rattle.core_lowering.specs.Surveys.{seen, IsRight}
 use Rattle.core_lowering.proofs.Loops.{zip-ended, zip-turn}

@@ -1,7 +1,7 @@
 use Rattle.std.proofs.Common.{◌≡◌, ◌++◌, map, drop, length}
 use Rattle.core_code.specs.Core.{method_of}
 use Rattle.core_lowering_rules.specs.Programs.{method_cores}
-use Rattle.core_lowering_methods.specs.Views.{folder_of}
+use Rattle.core_lowering_context.specs.Views.{folder_of}
 use Rattle.core_lowering.specs.Surveys.{seen}
 use Rattle.core_lowering.proofs.methods.methods.Given as goal
 

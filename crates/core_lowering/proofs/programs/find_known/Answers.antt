@@ -2,9 +2,9 @@ use Rattle.std.proofs.Common.{◌≡◌, List, [], map, ap, sym, ◌∙◌}
 use Rattle.java_resolver.specs.Table.{classes, fields, methods}
 use Rattle.core_lowering_rules.specs.Methods.{Source as SeenSource}
 use Rattle.core_lowering_rules.specs.Programs.{sources_of}
-use Rattle.core_lowering_methods.specs.declared.sources.Source.{Source}
-use Rattle.core_lowering_methods.specs.Sources.{source_of}
-use Rattle.core_lowering_methods.specs.Views.{folder_of}
+use Rattle.core_lowering_context.specs.declared.sources.Source.{Source}
+use Rattle.core_lowering_context.specs.Sources.{source_of}
+use Rattle.core_lowering_context.specs.Views.{folder_of}
 use Rattle.core_lowering.specs.Calls.{row_in}
 use Rattle.core_lowering.specs.Parts.{parts_of, with_infos}
 use Rattle.core_lowering.specs.Reasons.{declared_by, own_reason}

@@ -1,5 +1,5 @@
 use Rattle.std.proofs.Common.{◌≡◌, ◌++◌, map, drop, length}
-use Rattle.core_lowering_methods.specs.Sources.{source_of}
+use Rattle.core_lowering_context.specs.Sources.{source_of}
 use Rattle.core_lowering.specs.Parts.{part_of, with_infos}
 use Rattle.core_lowering.proofs.sources.with_infos.Given as goal
 

@@ -5,9 +5,9 @@ use Rattle.std.proofs.lemmas.List.Elements.{All-nil, All-cons, All-append}
 use Rattle.racer_base.specs.declared.ids.MethodId.{MethodId}
 use Rattle.racer_base.proofs.Lists.{ended, turn}
 use Rattle.core_code.specs.declared.code.Reason.{Reason}
-use Rattle.core_lowering_methods.specs.Views.{folder_of}
-use Rattle.core_lowering_methods.specs.declared.sources.Source.{Source}
-use Rattle.core_lowering_methods.specs.Sources.{source_of}
+use Rattle.core_lowering_context.specs.Views.{folder_of}
+use Rattle.core_lowering_context.specs.declared.sources.Source.{Source}
+use Rattle.core_lowering_context.specs.Sources.{source_of}
 use Rattle.core_lowering.specs.declared.surveys.Surveyed.{Surveyed}
 use Rattle.core_lowering.specs.Calls.{row_in}
 use Rattle.core_lowering.specs.Reasons.{declared_by, own_reason}

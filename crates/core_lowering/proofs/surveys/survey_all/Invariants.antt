@@ -1,7 +1,7 @@
 use Rattle.std.proofs.Common.{◌≡◌, ◌++◌, [], map, drop}
 use Rattle.std.specs.List.{All}
-use Rattle.core_lowering_methods.specs.Views.{folder_of}
-use Rattle.core_lowering_methods.specs.Sources.{source_of}
+use Rattle.core_lowering_context.specs.Views.{folder_of}
+use Rattle.core_lowering_context.specs.Sources.{source_of}
 use Rattle.core_lowering.specs.Calls.{row_in}
 use Rattle.core_lowering.specs.Reasons.{declared_by, own_reason}
 use Rattle.core_lowering.specs.Surveys.{seen, IsRight}

@@ -8,7 +8,7 @@ use Rattle.core_lowering_rules.specs.TreesOf.{expr_of, condition_of, start_of, s
 use Rattle.core_lowering_rules.specs.Context.{Context, Code, ends_of, type_kind}
 use Rattle.core_lowering_rules.specs.Scopes.{declared, started, in_loop, back_from, after}
 use Rattle.core_lowering_rules.specs.Statements.{stmt}
-use Rattle.core_lowering_methods.specs.Drafts.{code_of}
+use Rattle.core_lowering_context.specs.Drafts.{code_of}
 use Rattle.core_lowering_methods.proofs.LoopCode.{body-made, round-made, while-made, do-made, for-made, elements-made}
 use Rattle.core_lowering_methods.proofs.LoopCode.{each-made, named-made}
 use Rattle.core_lowering_methods.proofs.StatementContexts.{left-made, loop-left, label-left, inside-for, inside-each}

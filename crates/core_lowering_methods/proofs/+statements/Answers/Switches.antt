@@ -11,7 +11,7 @@ use Rattle.core_lowering_rules.specs.TreesOf.{expr_of, stmt_of, group_of, label_
 use Rattle.core_lowering_rules.specs.Context.{Context}
 use Rattle.core_lowering_rules.specs.Scopes.{after_all, after_groups}
 use Rattle.core_lowering_rules.specs.Statements.{stmts, options}
-use Rattle.core_lowering_methods.specs.Drafts.{code_of}
+use Rattle.core_lowering_context.specs.Drafts.{code_of}
 use Rattle.core_lowering_methods.specs.StatementSteps.{statements_of, options_with, settled}
 use Rattle.core_lowering_methods.proofs.OptionsMade.{group-form}
 use Rattle.core_lowering_methods.proofs.StatementContexts.{switch-left}

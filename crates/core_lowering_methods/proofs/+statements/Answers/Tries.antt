@@ -18,10 +18,9 @@ use Rattle.core_lowering_rules.specs.Scopes.{declared, after, after_all, caught}
 use Rattle.core_lowering_rules.specs.Statements.{stmt}
 use Rattle.core_lowering_locks.specs.Seen.{body_of, clauses_of, resources_in}
 use Rattle.core_lowering_locks.proofs.JoinedStatements.{catch-form}
-use Rattle.core_lowering_methods.specs.Drafts.{code_of}
-use Rattle.core_lowering_methods.specs.Parts.{passed_by}
-use Rattle.core_lowering_methods.specs.Restored.{restored}
-use Rattle.core_lowering_methods.specs.StatementSteps.{behind_first, first_part}
+use Rattle.core_lowering_context.specs.Drafts.{code_of}
+use Rattle.core_lowering_context.specs.Restored.{restored}
+use Rattle.core_lowering_methods.specs.StatementSteps.{behind_first, first_part, passed_by}
 use Rattle.core_lowering_methods.proofs.StatementCode.{held-made}
 use Rattle.core_lowering_methods.proofs.StatementContexts.{first-left, clause-passed}
 use Rattle.core_lowering_methods.proofs.StatementContexts.{locked-left, try-left}

@@ -3,7 +3,7 @@ use Rattle.std.specs.Prelude.{◌++◌, take, drop}
 use Rattle.racer_base.specs.declared.ids.VarId.{VarId}
 use Rattle.racer_base.specs.declared.ids.Place.{Place}
 use Rattle.core_lowering_rules.specs.Context.{ending}
-use Rattle.core_lowering_methods.specs.Drafts.{code_of}
+use Rattle.core_lowering_context.specs.Drafts.{code_of}
 use Rattle.core_lowering_methods.specs.StatementSteps.{closed_from}
 use Rattle.core_lowering_methods.proofs.Becoming.{becomes}
 use Rattle.core_lowering_methods.proofs.blocks.end_block.Goals as goal

@@ -1,6 +1,6 @@
 use Rattle.std.proofs.Common.{◌∙◌}
-use Rattle.core_lowering_methods.specs.Views.{folder_of}
-use Rattle.core_lowering_methods.specs.Sources.{source_of}
+use Rattle.core_lowering_context.specs.Views.{folder_of}
+use Rattle.core_lowering_context.specs.Sources.{source_of}
 use Rattle.core_lowering_methods.proofs.MethodCode.{default-made}
 use Rattle.core_lowering_methods.proofs.bodies.lower_default.Goals as goal
 

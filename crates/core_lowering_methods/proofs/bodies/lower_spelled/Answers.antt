@@ -7,9 +7,9 @@ use Rattle.core_lowering_rules.specs.Statements.{closed, returned, stmts}
 use Rattle.std.specs.Prelude.{None}
 use Rattle.core_lowering_methods.specs.Bodies.{object_begun, owner_pushed}
 use Rattle.core_lowering_methods.specs.Extents.{is_past}
-use Rattle.core_lowering_methods.specs.Parts.{left_at}
-use Rattle.core_lowering_methods.specs.Views.{folder_of}
-use Rattle.core_lowering_methods.specs.Sources.{source_of}
+use Rattle.core_lowering_context.specs.Beginning.{left_at}
+use Rattle.core_lowering_context.specs.Views.{folder_of}
+use Rattle.core_lowering_context.specs.Sources.{source_of}
 use Rattle.core_lowering_methods.proofs.MethodCode.{known-past, spelled-made}
 use Rattle.core_lowering_methods.proofs.bodies.lower_spelled.Goals as goal
 

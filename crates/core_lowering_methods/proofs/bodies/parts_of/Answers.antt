@@ -1,8 +1,8 @@
 use Rattle.std.proofs.Common.{ap, ◌∙◌}
 use Rattle.core_lowering_rules.specs.Context.{Context}
 use Rattle.core_lowering_rules.specs.Methods.{entered}
-use Rattle.core_lowering_methods.specs.Views.{folder_of}
-use Rattle.core_lowering_methods.specs.Sources.{source_of}
+use Rattle.core_lowering_context.specs.Views.{folder_of}
+use Rattle.core_lowering_context.specs.Sources.{source_of}
 use Rattle.core_lowering_methods.proofs.MethodCode.{guards-kept}
 use Rattle.core_lowering_methods.proofs.bodies.parts_of.Goals as goal
 

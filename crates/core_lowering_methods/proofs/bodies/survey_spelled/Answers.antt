@@ -5,11 +5,12 @@ use Rattle.core_lowering_rules.specs.Context.{Context}
 use Rattle.core_lowering_rules.specs.Methods.{body_of, is_large}
 use Rattle.core_lowering_rules.specs.Scopes.{after_all}
 use Rattle.core_lowering_rules.specs.Statements.{closed, returned, stmts}
-use Rattle.core_lowering_methods.specs.Bodies.{inside, object_begun, owner_pushed}
+use Rattle.core_lowering_context.specs.Beginning.{inside}
+use Rattle.core_lowering_methods.specs.Bodies.{object_begun, owner_pushed}
 use Rattle.core_lowering_methods.specs.Extents.{is_past}
-use Rattle.core_lowering_methods.specs.Parts.{left_at}
-use Rattle.core_lowering_methods.specs.Views.{folder_of}
-use Rattle.core_lowering_methods.specs.Sources.{source_of}
+use Rattle.core_lowering_context.specs.Beginning.{left_at}
+use Rattle.core_lowering_context.specs.Views.{folder_of}
+use Rattle.core_lowering_context.specs.Sources.{source_of}
 use Rattle.core_lowering_methods.proofs.MethodCode.{measured-past, spelled-made}
 use Rattle.core_lowering_methods.proofs.bodies.survey_spelled.Goals as goal
 

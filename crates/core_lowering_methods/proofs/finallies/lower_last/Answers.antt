@@ -4,8 +4,8 @@ use Rattle.racer_base.specs.declared.ids.VarId.{VarId}
 use Rattle.core_code.specs.declared.code.Op.TheVariants.{Push}
 use Rattle.core_lowering_rules.specs.Context.{op}
 use Rattle.core_lowering_rules.specs.Statements.{last_of, sent_back}
-use Rattle.core_lowering_methods.specs.Drafts.{code_of}
-use Rattle.core_lowering_methods.proofs.Pieces.{two_pieces}
+use Rattle.core_lowering_context.specs.Drafts.{code_of}
+use Rattle.core_lowering_context.proofs.Pieces.{two_pieces}
 use Rattle.core_lowering_methods.proofs.finallies.lower_last.Goals as goal
 
 pub returns-clause-code : goal.returns-clause-code

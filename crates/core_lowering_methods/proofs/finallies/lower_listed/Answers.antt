@@ -5,7 +5,7 @@ use Rattle.core_lowering_rules.specs.TreesOf.{resource_of}
 use Rattle.core_lowering_rules.specs.Context.{Context, Code}
 use Rattle.core_lowering_rules.specs.Scopes.{with_resource, with_resources}
 use Rattle.core_lowering_rules.specs.Statements.{begun_resource, begun_resources}
-use Rattle.core_lowering_methods.specs.Drafts.{code_of}
+use Rattle.core_lowering_context.specs.Drafts.{code_of}
 use Rattle.core_lowering_methods.proofs.finallies.lower_listed.Goals as goal
 
 pub loop-resource-preserved : goal.loop-resource-preserved

@@ -2,7 +2,7 @@ use Rattle.std.proofs.Common.{◌≡◌, ◌++◌, map, drop}
 use Rattle.core_lowering_rules.specs.TreesOf.{resource_of}
 use Rattle.core_lowering_rules.specs.Scopes.{with_resources}
 use Rattle.core_lowering_rules.specs.Statements.{begun_resources}
-use Rattle.core_lowering_methods.specs.Drafts.{code_of}
+use Rattle.core_lowering_context.specs.Drafts.{code_of}
 use Rattle.core_lowering_methods.proofs.finallies.lower_listed.Given as goal
 
 -- what was made, and then the resources that are left

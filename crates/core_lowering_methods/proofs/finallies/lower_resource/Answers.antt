@@ -8,9 +8,9 @@ use Rattle.core_lowering_rules.specs.Context.{Context, converted, type_kind}
 use Rattle.core_lowering_rules.specs.Expressions.{code, kind}
 use Rattle.core_lowering_rules.specs.Scopes.{declared, next_variable, with_resource}
 use Rattle.core_lowering_rules.specs.Statements.{set}
-use Rattle.core_lowering_methods.specs.Drafts.{code_of}
-use Rattle.core_lowering_methods.specs.Restored.{with_closing}
-use Rattle.core_lowering_methods.proofs.Pieces.{two_pieces}
+use Rattle.core_lowering_context.specs.Drafts.{code_of}
+use Rattle.core_lowering_context.specs.Restored.{with_closing}
+use Rattle.core_lowering_context.proofs.Pieces.{two_pieces}
 use Rattle.core_lowering_methods.proofs.finallies.lower_resource.Goals as goal
 
 pub returns-clause-context : goal.returns-clause-context

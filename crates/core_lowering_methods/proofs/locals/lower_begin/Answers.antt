@@ -5,8 +5,8 @@ use Rattle.core_lowering_rules.specs.TreesOf.{init_of}
 use Rattle.core_lowering_rules.specs.Context.{converted}
 use Rattle.core_lowering_rules.specs.Expressions.{init_code, init_kind}
 use Rattle.core_lowering_rules.specs.Statements.{begun, set}
-use Rattle.core_lowering_methods.specs.Drafts.{code_of}
-use Rattle.core_lowering_methods.proofs.Pieces.{two_pieces}
+use Rattle.core_lowering_context.specs.Drafts.{code_of}
+use Rattle.core_lowering_context.proofs.Pieces.{two_pieces}
 use Rattle.core_lowering_methods.proofs.locals.lower_begin.Goals as goal
 
 pub returns : goal.returns

@@ -6,7 +6,7 @@ use Rattle.core_lowering_rules.specs.TreesOf.{init_of, variable_of}
 use Rattle.core_lowering_rules.specs.Context.{Context, Code}
 use Rattle.core_lowering_rules.specs.Scopes.{declared, next_variable, all_declared}
 use Rattle.core_lowering_rules.specs.Statements.{begun, begun_all}
-use Rattle.core_lowering_methods.specs.Drafts.{code_of}
+use Rattle.core_lowering_context.specs.Drafts.{code_of}
 use Rattle.core_lowering_methods.proofs.locals.lower_variables.Goals as goal
 
 pub loop-variable-preserved : goal.loop-variable-preserved

@@ -2,7 +2,7 @@ use Rattle.std.proofs.Common.{◌≡◌, ◌++◌, map, drop}
 use Rattle.core_lowering_rules.specs.TreesOf.{variable_of}
 use Rattle.core_lowering_rules.specs.Scopes.{all_declared}
 use Rattle.core_lowering_rules.specs.Statements.{begun_all}
-use Rattle.core_lowering_methods.specs.Drafts.{code_of}
+use Rattle.core_lowering_context.specs.Drafts.{code_of}
 use Rattle.core_lowering_methods.proofs.locals.lower_variables.Given as goal
 
 -- what was made, and then the variables that are left

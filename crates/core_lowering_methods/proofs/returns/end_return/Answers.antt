@@ -3,9 +3,9 @@ use Rattle.std.proofs.lemmas.Result.{on_ok_weaker}
 use Rattle.racer_base.specs.declared.ids.VarId.{VarId}
 use Rattle.core_lowering_rules.specs.Context.{Context}
 use Rattle.core_lowering_rules.specs.Scopes.{after_return}
-use Rattle.core_lowering_methods.specs.Drafts.{code_of}
-use Rattle.core_lowering_methods.specs.Exits.{sent_seen}
-use Rattle.core_lowering_methods.specs.Restored.{sent_to}
+use Rattle.core_lowering_context.specs.Drafts.{code_of}
+use Rattle.core_lowering_context.specs.Exits.{sent_seen}
+use Rattle.core_lowering_context.specs.Restored.{sent_to}
 use Rattle.core_lowering_methods.specs.StatementSteps.{sent_by}
 use Rattle.core_lowering_methods.proofs.Inside.{inside-after_return}
 use Rattle.core_lowering_methods.proofs.StatementCode.{sent-alike, sent-there}

@@ -5,9 +5,9 @@ use Rattle.core_lowering_rules.specs.Context.{Itself, Nothing, Value, converted,
 use Rattle.core_lowering_rules.specs.Expressions.{code, kind}
 use Rattle.core_lowering_rules.specs.Statements.{run, returned_value}
 use Rattle.core_code.specs.declared.code.Op.TheVariants.{PushPrim}
-use Rattle.core_lowering_methods.specs.Drafts.{code_of}
-use Rattle.core_lowering_methods.specs.Views.{given_of}
-use Rattle.core_lowering_methods.proofs.Pieces.{two_pieces}
+use Rattle.core_lowering_context.specs.Drafts.{code_of}
+use Rattle.core_lowering_context.specs.Views.{given_of}
+use Rattle.core_lowering_context.proofs.Pieces.{two_pieces}
 use Rattle.core_lowering_methods.proofs.returns.lower_given.Goals as goal
 
 pub returns-in_ok-value-in-Value : goal.returns-in_ok-value-in-Value

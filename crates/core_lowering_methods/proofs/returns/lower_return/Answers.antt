@@ -3,8 +3,8 @@ use Rattle.std.specs.Prelude.{option_map}
 use Rattle.std.proofs.lemmas.Result.{on_ok_weaker}
 use Rattle.core_lowering_rules.specs.TreesOf.{expr_of}
 use Rattle.core_lowering_rules.specs.Statements.{returned_value, returned, sent_back}
-use Rattle.core_lowering_methods.specs.Drafts.{code_of}
-use Rattle.core_lowering_methods.proofs.Pieces.{two_pieces}
+use Rattle.core_lowering_context.specs.Drafts.{code_of}
+use Rattle.core_lowering_context.proofs.Pieces.{two_pieces}
 use Rattle.core_lowering_methods.proofs.returns.lower_return.Goals as goal
 
 pub returns-clause-code : goal.returns-clause-code

@@ -1,8 +1,8 @@
 use Rattle.std.proofs.Common.{◌++◌, ap, ◌∙◌}
 use Rattle.std.proofs.lemmas.Result.{on_ok_weaker}
 use Rattle.core_lowering_rules.specs.Statements.{returned_nothing, sent_back}
-use Rattle.core_lowering_methods.specs.Drafts.{code_of}
-use Rattle.core_lowering_methods.proofs.Pieces.{two_pieces}
+use Rattle.core_lowering_context.specs.Drafts.{code_of}
+use Rattle.core_lowering_context.proofs.Pieces.{two_pieces}
 use Rattle.core_lowering_methods.proofs.returns.lower_return_nothing.Goals as goal
 
 pub returns-clause-code : goal.returns-clause-code

@@ -2,10 +2,10 @@ use Rattle.std.proofs.Common.{◌≡◌, ◌++◌, ◌∷◌, [], Some, sym, ap,
 use Rattle.std.proofs.lemmas.Result.{on_ok_weaker}
 use Rattle.core_lowering_drafts.specs.Drafts.{Leave}
 use Rattle.core_lowering_rules.specs.Statements.{set}
-use Rattle.core_lowering_methods.specs.Drafts.{code_of}
-use Rattle.core_lowering_methods.specs.Exits.{sent_seen, sent_pair}
+use Rattle.core_lowering_context.specs.Drafts.{code_of}
+use Rattle.core_lowering_context.specs.Exits.{sent_seen, sent_pair}
 use Rattle.core_lowering_methods.specs.StatementSteps.{sent_by}
-use Rattle.core_lowering_methods.proofs.Pieces.{two_pieces}
+use Rattle.core_lowering_context.proofs.Pieces.{two_pieces}
 use Rattle.core_lowering_methods.proofs.returns.lower_sent.Goals as goal
 
 pub returns : goal.returns

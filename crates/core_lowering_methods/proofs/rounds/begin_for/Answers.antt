@@ -5,8 +5,8 @@ use Rattle.core_lowering_rules.specs.TreesOf.{condition_of, start_of}
 use Rattle.core_lowering_rules.specs.Context.{Context}
 use Rattle.core_lowering_rules.specs.Scopes.{started}
 use Rattle.core_lowering_rules.specs.Statements.{tested, start}
-use Rattle.core_lowering_methods.specs.Drafts.{code_of}
-use Rattle.core_lowering_methods.proofs.Pieces.{two_pieces}
+use Rattle.core_lowering_context.specs.Drafts.{code_of}
+use Rattle.core_lowering_context.proofs.Pieces.{two_pieces}
 use Rattle.core_lowering_methods.proofs.rounds.begin_for.Goals as goal
 
 pub returns-clause-context : goal.returns-clause-context

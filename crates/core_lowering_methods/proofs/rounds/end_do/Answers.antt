@@ -3,7 +3,7 @@ use Rattle.std.proofs.lemmas.Result.{on_ok_weaker}
 use Rattle.core_lowering_rules.specs.TreesOf.{condition_of}
 use Rattle.core_lowering_rules.specs.Statements.{run}
 use Rattle.core_lowering_rules.specs.Context.{again}
-use Rattle.core_lowering_methods.specs.Drafts.{code_of}
+use Rattle.core_lowering_context.specs.Drafts.{code_of}
 use Rattle.core_lowering_methods.proofs.Becoming.{loop-made}
 use Rattle.core_lowering_methods.proofs.rounds.end_do.Goals as goal
 

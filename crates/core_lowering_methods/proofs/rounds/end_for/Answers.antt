@@ -6,7 +6,7 @@ use Rattle.core_lowering_rules.specs.TreesOf.{expr_of, condition_of}
 use Rattle.core_lowering_rules.specs.Statements.{is_endless}
 use Rattle.core_lowering_methods.specs.StatementSteps.{turned}
 use Rattle.core_lowering_rules.specs.Context.{repeated}
-use Rattle.core_lowering_methods.specs.Drafts.{code_of}
+use Rattle.core_lowering_context.specs.Drafts.{code_of}
 use Rattle.core_lowering_methods.proofs.Becoming.{loop-made}
 use Rattle.core_lowering_methods.proofs.rounds.end_for.Goals as goal
 

@@ -1,7 +1,7 @@
 use Rattle.std.proofs.Common.{false}
 use Rattle.std.proofs.lemmas.Result.{on_ok_weaker}
 use Rattle.core_lowering_rules.specs.Context.{repeated}
-use Rattle.core_lowering_methods.specs.Drafts.{code_of}
+use Rattle.core_lowering_context.specs.Drafts.{code_of}
 use Rattle.core_lowering_methods.specs.StatementSteps.{broken_at}
 use Rattle.core_lowering_methods.proofs.Becoming.{becomes, becomes-then}
 use Rattle.core_lowering_methods.proofs.rounds.end_for_each.Goals as goal

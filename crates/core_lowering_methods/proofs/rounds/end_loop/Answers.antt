@@ -1,6 +1,6 @@
 use Rattle.std.proofs.Common.{◌++◌}
 use Rattle.core_lowering_rules.specs.Context.{within}
-use Rattle.core_lowering_methods.specs.Drafts.{code_of}
+use Rattle.core_lowering_context.specs.Drafts.{code_of}
 use Rattle.core_lowering_methods.specs.StatementSteps.{nothing_behind}
 use Rattle.core_lowering_methods.proofs.Becoming.{becomes, becomes-then, becomes-more}
 use Rattle.core_lowering_methods.proofs.rounds.end_loop.Goals as goal

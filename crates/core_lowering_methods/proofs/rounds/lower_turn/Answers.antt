@@ -4,8 +4,8 @@ use Rattle.std.proofs.lemmas.Result.{on_ok_weaker}
 use Rattle.core_lowering_rules.specs.Trees.{pack_exprs}
 use Rattle.core_lowering_rules.specs.TreesOf.{expr_of, condition_of}
 use Rattle.core_lowering_rules.specs.Statements.{run_all, tested}
-use Rattle.core_lowering_methods.specs.Drafts.{code_of}
-use Rattle.core_lowering_methods.proofs.Pieces.{two_pieces}
+use Rattle.core_lowering_context.specs.Drafts.{code_of}
+use Rattle.core_lowering_context.proofs.Pieces.{two_pieces}
 use Rattle.core_lowering_methods.proofs.rounds.lower_turn.Goals as goal
 
 pub returns : goal.returns

@@ -1,6 +1,6 @@
 use Rattle.core_lowering_rules.specs.Context.{Context, within}
-use Rattle.core_lowering_methods.specs.Drafts.{code_of}
-use Rattle.core_lowering_methods.specs.Parts.{left_at}
+use Rattle.core_lowering_context.specs.Drafts.{code_of}
+use Rattle.core_lowering_context.specs.Beginning.{left_at}
 use Rattle.core_lowering_methods.specs.StatementSteps.{closed_from}
 use Rattle.core_lowering_methods.proofs.Becoming.{becomes, becomes-then}
 use Rattle.std.proofs.Common.{ap, ◌∙◌, ◌++◌}

@@ -1,0 +1,7 @@
+pub mod AccessParts
+pub mod CallParts
+pub mod Joined
+pub mod Made
+pub mod OtherForms
+pub mod ExpressionForms
+pub mod FieldsBegun

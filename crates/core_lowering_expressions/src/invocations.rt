@@ -1,0 +1,126 @@
+//! The code of calls and object creations (JLS 15.9, 15.12).
+ghost use Rattle.std.specs.Prelude.{◌≡◌, ◌++◌, map, drop, OnOk, IfOk};
+ghost use Rattle.java_tree.specs.View.{ty_of};
+ghost use Rattle.core_lowering_rules.specs.Trees.{CallOn, New, pack_exprs};
+ghost use Rattle.core_lowering_rules.specs.TreesOf.{expr_of};
+ghost use Rattle.core_lowering_rules.specs.Expressions.{code, kind, passed};
+ghost use Rattle.core_lowering_context.specs.Drafts.{code_of};
+ghost use Rattle.core_lowering_context.specs.Views.{value_kind};
+ghost use Rattle.core_lowering_expressions.specs.Parts.{converted_first};
+ghost use Rattle.core_lowering_expressions.specs.Together.{target_call, target_kind};
+
+use crate::calls::{
+    Target, begin_call, begin_new, callee_on, finish_call, finish_new, made_kinds, passed_kinds,
+};
+use crate::expressions::lower_expression;
+use crate::names::class_before;
+use core_lowering_context::{Context, Making, ValueKind, number_of};
+use java_tree::{Expression, Ident, TypeTree};
+use racer_base::{Kind, Memory, Place};
+use std::alloc::Global;
+
+/// What an argument goes through on its way to the kind with this index, if there is one.
+fn convert_at(
+    context: &Context,
+    kinds: &[Kind],
+    index: usize,
+    given: ValueKind,
+    draft: &mut Making,
+) -> Result<(), Memory>
+    ensures { OnOk result (code_of draft.new ≡ code_of draft.old
+        ++ converted_first context.now (drop index kinds.now) (value_kind given)) }
+{
+    match kinds.get(index) {
+        Some(kind) => context.convert(draft, *kind, given),
+        None => Ok(()),
+    }
+}
+
+/// Arguments, converted to kinds as far as these go.
+#[cycle(lower_expressions)]
+pub fn lower_arguments(
+    alloc: Global,
+    context: &Context,
+    arguments: &[Expression],
+    kinds: &[Kind],
+    draft: &mut Making,
+) -> Result<(), Memory>
+    ensures { OnOk result (code_of draft.new ≡ code_of draft.old
+        ++ passed context.now kinds.now (pack_exprs (map expr_of arguments.now))) }
+{
+    for (index, argument) in arguments.iter().enumerate() {
+        let given = lower_expression(alloc, context, argument, draft)?;
+        convert_at(context, kinds, index, given, draft)?;
+    }
+    Ok(())
+}
+
+/// A method, where this stands before its name.
+#[cycle(lower_expressions)]
+pub fn lower_call(
+    alloc: Global,
+    context: &Context,
+    arguments: &[Expression],
+    target: Target,
+    x: &Ident,
+    draft: &mut Making,
+) -> Result<ValueKind, Memory>
+    ensures code { OnOk result (code_of draft.new ≡ code_of draft.old
+        ++ target_call context.now target x.now (pack_exprs (map expr_of arguments.now))) }
+    ensures kind { IfOk result (λ k. value_kind k
+        ≡ target_kind context.now target x.now (pack_exprs (map expr_of arguments.now))) }
+{
+    let count = number_of(arguments.len())?;
+    let callee = callee_on(context, target, x, count);
+    begin_call(context, target, callee, draft)?;
+    lower_arguments(
+        alloc,
+        context,
+        arguments,
+        passed_kinds(context, callee),
+        draft,
+    )?;
+    finish_call(context, target, x.place, count, callee, draft)
+}
+
+/// e.f(..)
+#[cycle(lower_expressions)]
+pub fn lower_call_on(
+    alloc: Global,
+    context: &Context,
+    e: &Expression,
+    x: &Ident,
+    arguments: &[Expression],
+    draft: &mut Making,
+) -> Result<ValueKind, Memory>
+    ensures code { OnOk result (code_of draft.new ≡ code_of draft.old
+        ++ code context.now (CallOn (expr_of e.now) x.now (pack_exprs (map expr_of arguments.now)))) }
+    ensures kind { IfOk result (λ k. value_kind k ≡ kind context.now
+        (CallOn (expr_of e.now) x.now (pack_exprs (map expr_of arguments.now)))) }
+{
+    if let Some(c) = class_before(context, e) {
+        return lower_call(alloc, context, arguments, Target::Class(c), x, draft);
+    }
+    let kind = lower_expression(alloc, context, e, draft)?;
+    lower_call(alloc, context, arguments, Target::Value(kind), x, draft)
+}
+
+/// new T(..)
+#[cycle(lower_expressions)]
+pub fn lower_new(
+    alloc: Global,
+    context: &Context,
+    arguments: &[Expression],
+    place: Place,
+    t: &TypeTree,
+    draft: &mut Making,
+) -> Result<ValueKind, Memory>
+    ensures code { OnOk result (code_of draft.new ≡ code_of draft.old
+        ++ code context.now (New place (ty_of t.now) (pack_exprs (map expr_of arguments.now)))) }
+    ensures kind { IfOk result (λ k. value_kind k ≡ kind context.now
+        (New place (ty_of t.now) (pack_exprs (map expr_of arguments.now)))) }
+{
+    let maker = begin_new(context, place, t, arguments.len(), draft)?;
+    lower_arguments(alloc, context, arguments, made_kinds(context, maker), draft)?;
+    finish_new(context, place, t, arguments.len(), maker, draft)
+}

@@ -1,6 +1,0 @@
-use Rattle.core_lowering_methods.specs.Drafts.{code_of}
-use Rattle.core_lowering_methods.proofs.making.Making.len.Goals as goal
-
-pub returns : goal.returns
-unfolding code_of
-returns c = c.args.self.now.counted
