@@ -25,6 +25,7 @@ use Rattle.core_ways.specs.declared.mark.Leg.{Leg}
 use Rattle.witness_build_apart_laws.specs.Goes.{leg_goes}
 use Rattle.witness_build_apart_laws.specs.Looks.{leg_looks}
 use Rattle.witness_build_apart_laws.specs.Stores.{leg_stores}
+use Rattle.witness_build_walks.specs.declared.trunk.KeptParts.{KeptParts}
 use Rattle.witness_build_walks.specs.declared.walk.Walk.{Walk}
 
 -- the order in which a walk keeps fields
@@ -141,3 +142,10 @@ pub record IsSame (w copy : Walk) : Type 0 where
   pub reads : (fields : List FieldId) → AreKept w.reads fields → AreKept copy.reads fields
   pub writes : (fields : List FieldId) → AreKept w.writes fields → AreKept copy.writes fields
   pub loud : copy.is_loud ≡ w.is_loud
+
+-- a copy of what a walk keeps beside its machine
+pub record HasKept (w : Walk) (copy : KeptParts) : Type 0 where
+  pub turns : copy.turns.items ≡ w.turns.items
+  pub given : copy.given ≡ gathered [] w.given
+  pub reads : (fields : List FieldId) → AreKept w.reads fields → AreKept copy.reads fields
+  pub writes : (fields : List FieldId) → AreKept w.writes fields → AreKept copy.writes fields

@@ -5,10 +5,10 @@ ghost use Rattle.witness_build_walks.specs.Told.{IsGoneIn, IsLast};
 ghost use Rattle.witness_build_walks.specs.Walks.{CanGoOn, HasGone, IsFront, IsWalk};
 
 use crate::trunk::resumed_on;
-use crate::walk::{Walk, step_on, walk_from_entry};
+use crate::walk::{Walk, let_last_go, let_walk_go, step_on, walk_from_entry};
 use core_code::Program;
 use core_semantics::Turn;
-use core_ways::{Leg, let_go};
+use core_ways::Leg;
 use racer_base::{Memory, MethodId};
 use std::alloc::Global;
 
@@ -74,7 +74,7 @@ pub(crate) fn resumed<'a>(
         if goes_on(&walk, course) {
             return Ok(walk);
         }
-        let_go(walk.machine);
+        let_walk_go(walk);
     }
     walk_from_entry(alloc, program, course.leg.thread, course.method)
 }
@@ -115,7 +115,10 @@ pub(crate) fn walk_along<'a>(
         IsGoneIn (core program.now) course.entry.method course.entry.leg.now all slot.new) }
 {
     let mut walk = resumed_on(alloc, program, slot.take(), trunk, course)?;
-    let all = walk_on(program, &mut walk, course.leg)?;
-    *slot = Some(walk);
+    let Ok(all) = walk_on(program, &mut walk, course.leg) else {
+        let_walk_go(walk);
+        return Err(Memory);
+    };
+    let_last_go(slot.replace(walk));
     Ok(all)
 }

@@ -5,16 +5,26 @@ ghost use Rattle.racer_base.specs.declared.ids.FieldId.{FieldId};
 ghost use Rattle.core_code.specs.Program.{core};
 ghost use Rattle.core_ways.specs.Gathered.{gathered};
 ghost use Rattle.witness_build_walks.specs.Told.{IsLast};
-ghost use Rattle.witness_build_walks.specs.Walks.{AreKept, CanGoOn, IsFront, IsSame, IsWalk};
+ghost use Rattle.witness_build_walks.specs.Walks.{AreKept, CanGoOn, HasKept, IsFront, IsSame, IsWalk};
 
 use crate::along::{Course, are_same, goes_on, resumed, turn_at};
-use crate::walk::{Walk, step_on};
+use crate::walk::{Walk, let_last_go, let_walk_go, step_on};
 use core_code::Program;
 use core_semantics::Turn;
 use core_ways::{Leg, Objects, let_go};
 use racer_base::{FieldId, Memory};
 use std::alloc::Global;
 use std::collections::BTreeSet;
+
+/// What a walk keeps beside its machine. It is copied apart: a drop is proved wherever memory can be refused, and that
+/// of a machine is dear.
+#[derive(Drop)]
+struct KeptParts {
+    turns: Vec<Turn>,
+    given: Objects,
+    reads: BTreeSet<FieldId>,
+    writes: BTreeSet<FieldId>,
+}
 
 /// With how many same turns two ways begin.
 fn shared_turns(a: &[Turn], b: &[Turn]) -> usize {
@@ -51,6 +61,22 @@ fn given_copied(alloc: Global, given: &Objects) -> Result<Objects, Memory>
     Ok(copy)
 }
 
+/// A copy of what a walk keeps beside its machine.
+fn kept_copied(alloc: Global, walk: &Walk) -> Result<KeptParts, Memory>
+    ensures { IfOk result (λ copy. HasKept walk.now copy) }
+{
+    let turns = Vec::from_slice(alloc, walk.turns.as_slice())?;
+    let reads = fields_copied(&walk.reads)?;
+    let writes = fields_copied(&walk.writes)?;
+    let given = given_copied(alloc, &walk.given)?;
+    Ok(KeptParts {
+        turns,
+        given,
+        reads,
+        writes,
+    })
+}
+
 /// A walk that is where this one is; none where its machine has no copy.
 fn copied<'a>(alloc: Global, walk: &Walk<'a>) -> Result<Option<Walk<'a>>, Memory>
     ensures { IfOk result (λ copied. IfSome copied (λ copy. IsSame walk.now copy)) }
@@ -58,19 +84,19 @@ fn copied<'a>(alloc: Global, walk: &Walk<'a>) -> Result<Option<Walk<'a>>, Memory
     let Some(machine) = walk.machine.copied()? else {
         return Ok(None);
     };
-    let turns = Vec::from_slice(alloc, walk.turns.as_slice())?;
-    let given = given_copied(alloc, &walk.given)?;
-    let reads = fields_copied(&walk.reads)?;
-    let writes = fields_copied(&walk.writes)?;
+    let Ok(kept) = kept_copied(alloc, walk) else {
+        let_go(machine);
+        return Err(Memory);
+    };
     Ok(Some(Walk {
         machine,
         thread: walk.thread,
         method: walk.method,
         steps: walk.steps,
-        turns,
-        given,
-        reads,
-        writes,
+        turns: kept.turns,
+        given: kept.given,
+        reads: kept.reads,
+        writes: kept.writes,
         is_loud: walk.is_loud,
     }))
 }
@@ -121,11 +147,18 @@ fn branched<'a>(
     if turns == 0 {
         return Ok(base);
     }
-    walk_up_to(program, &mut base, course.leg, turns)?;
-    let Some(copy) = copied(alloc, &base)? else {
+    let Ok(()) = walk_up_to(program, &mut base, course.leg, turns) else {
+        let_walk_go(base);
+        return Err(Memory);
+    };
+    let Ok(copied) = copied(alloc, &base) else {
+        let_walk_go(base);
+        return Err(Memory);
+    };
+    let Some(copy) = copied else {
         return Ok(base);
     };
-    *trunk = Some(base);
+    let_last_go(trunk.replace(base));
     Ok(copy)
 }
 
@@ -150,7 +183,7 @@ pub(crate) fn resumed_on<'a>(
             return Ok(walk);
         }
         turns = shared(&walk, course);
-        let_go(walk.machine);
+        let_walk_go(walk);
     }
     branched(alloc, program, trunk, course, turns)
 }

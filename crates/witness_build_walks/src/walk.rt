@@ -12,7 +12,7 @@ ghost use Rattle.witness_build_walks.specs.Walks.{written};
 
 use core_code::Program;
 use core_semantics::{FieldChange, Machine, Sight, Start, Turn, Value, begin};
-use core_ways::Objects;
+use core_ways::{Objects, let_go};
 use racer_base::{FieldId, Memory, MethodId};
 use std::alloc::Global;
 use std::collections::BTreeSet;
@@ -34,6 +34,19 @@ pub(crate) struct Walk<'a> {
     pub writes: BTreeSet<FieldId>,
     /// Whether it may have changed more.
     pub is_loud: bool,
+}
+
+/// Lets a walk go. It is taken apart here alone, since a drop is proved again wherever it stands.
+pub(crate) fn let_walk_go(walk: Walk) {
+    let_go(walk.machine);
+}
+
+/// The same, where there is one.
+pub(crate) fn let_last_go(last: Option<Walk>) {
+    match last {
+        Some(walk) => let_walk_go(walk),
+        None => {}
+    }
 }
 
 /// A walk at the entry of a method.

@@ -14,7 +14,7 @@ ghost use Rattle.witness_build_walks.specs.Told.{AreWalks, IsGone, IsGoneIn, IsL
 use crate::along::{Course, walk_along};
 use crate::apart::{place_of, told};
 use crate::behind::told_behind;
-use crate::walk::Walk;
+use crate::walk::{Walk, let_last_go};
 use core_code::Program;
 use core_ways::{Leg, Objects};
 use racer_base::{Memory, MethodId, Place};
@@ -43,7 +43,12 @@ pub struct Walks<'a> {
 }
 
 /// Lets walks go. Each type of their parts is taken apart here, so a crate that owns walks need not show how.
-pub fn let_go(_walks: Walks) {}
+pub fn let_go(walks: Walks) {
+    let_last_go(walks.first);
+    let_last_go(walks.second);
+    let_last_go(walks.first_trunk);
+    let_last_go(walks.second_trunk);
+}
 
 /// What two walks tell, and else a run of the second leg behind the first walk.
 fn told_by<'a>(

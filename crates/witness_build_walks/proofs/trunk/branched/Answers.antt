@@ -10,5 +10,5 @@ pub returns-clause-walk : goal.returns-clause-walk
 returns-clause-walk c =
     let base = c.walk_up_to.new.walk in
     same-walk (core c.args.program.now) base c.in-Some.copy
-    (subst (λ (copied : Option Walk). IfSome copied (λ copy. IsSame base copy)) c.in-Some.is c.in_ok-copy.ensures)
-    c.in_ok-walk_up_to.ensures.walk
+    (subst (λ (copied : Option Walk). IfSome copied (λ copy. IsSame base copy)) c.in-Some.is c.in-Ok-copied.ensures)
+    c.in-Ok.ensures.walk
