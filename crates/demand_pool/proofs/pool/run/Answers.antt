@@ -1,10 +1,11 @@
+use denote.Param.Send.{sendable}
 use Rattle.std.proofs.Common.{◌+◌, ◌<◌, List, length, sym, ap, ◌∙◌, subst, arith}
 use Rattle.std.specs.Arc.{arc_value}
 use Rattle.core_code.specs.Counting.{analysed_methods}
 use Rattle.core_code.specs.Program.{core}
 use Rattle.core_code.specs.declared.program.Program.{Program}
 use Rattle.access_domain.specs.Summaries.{outcome_of}
-use Rattle.transfer.proofs.Movable.{movable}
+use Rattle.transfer.proofs.Movable.{finished_send, finished_sync}
 use Rattle.summary_store.specs.Kept.{pieces_of}
 use Rattle.summary_store.specs.declared.machine.Event.{Event}
 use Rattle.summary_store.specs.Laws.{edges}
@@ -29,22 +30,22 @@ outcomes_of-requires g c =
     λ m. found m ∙ ap (λ (p : Program). outcome_of (core p) m) (sym c.requires.program)
 
 pub start-requires-send-P : goal.start-requires-send-P
-start-requires-send-P g c κs within = search movable depth 40 fits 20000
+start-requires-send-P g c κs within = search (sendable, finished_send)
 
 pub start-requires-sync-P : goal.start-requires-sync-P
-start-requires-sync-P g c κs within = search movable depth 40 fits 20000
+start-requires-sync-P g c κs within = search (sendable, finished_sync)
 
 pub into_locked-value-requires-send-P : goal.into_locked-value-requires-send-P
-into_locked-value-requires-send-P g c κs within = search movable depth 40 fits 20000
+into_locked-value-requires-send-P g c κs within = search (sendable, finished_send)
 
 pub into_locked-value-requires-sync-P : goal.into_locked-value-requires-sync-P
-into_locked-value-requires-sync-P g c κs within = search movable depth 40 fits 20000
+into_locked-value-requires-sync-P g c κs within = search (sendable, finished_sync)
 
 pub close-history-requires-send-P : goal.close-history-requires-send-P
-close-history-requires-send-P g c κs within = search movable depth 40 fits 20000
+close-history-requires-send-P g c κs within = search (sendable, finished_send)
 
 pub close-history-requires-sync-P : goal.close-history-requires-sync-P
-close-history-requires-sync-P g c κs within = search movable depth 40 fits 20000
+close-history-requires-sync-P g c κs within = search (sendable, finished_sync)
 
 pub returns-clause-complete : goal.returns-clause-complete
 returns-clause-complete g c =

@@ -1,6 +1,7 @@
+use denote.Param.Send.{sendable}
 use Rattle.std.proofs.Common.{Some, ap, ◌∙◌, arith}
 use Rattle.core_code.specs.Program.{core}
-use Rattle.transfer.proofs.Movable.{movable}
+use Rattle.transfer.proofs.Movable.{finished_send, finished_sync}
 use Rattle.summary_store.specs.Passes.{PassView}
 use Rattle.summary_store.specs.Setups.{setup_of}
 use Rattle.demand_pool.proofs.After.{after_take, after_leave, stays_on}
@@ -51,25 +52,25 @@ loop-i-preserved g c =
     }
 
 pub law-requires-send-P : goal.law-requires-send-P
-law-requires-send-P g c κs within = search movable depth 40 fits 20000
+law-requires-send-P g c κs within = search (sendable, finished_send)
 
 pub law-requires-sync-P : goal.law-requires-sync-P
-law-requires-sync-P g c κs within = search movable depth 40 fits 20000
+law-requires-sync-P g c κs within = search (sendable, finished_sync)
 
 pub meet-requires-send-P : goal.meet-requires-send-P
-meet-requires-send-P g c κs within = search movable depth 40 fits 20000
+meet-requires-send-P g c κs within = search (sendable, finished_send)
 
 pub meet-requires-sync-P : goal.meet-requires-sync-P
-meet-requires-sync-P g c κs within = search movable depth 40 fits 20000
+meet-requires-sync-P g c κs within = search (sendable, finished_sync)
 
 pub take_at-requires-send-P : goal.take_at-requires-send-P
-take_at-requires-send-P g c κs within = search movable depth 40 fits 20000
+take_at-requires-send-P g c κs within = search (sendable, finished_send)
 
 pub take_at-requires-sync-P : goal.take_at-requires-sync-P
-take_at-requires-sync-P g c κs within = search movable depth 40 fits 20000
+take_at-requires-sync-P g c κs within = search (sendable, finished_sync)
 
 pub law-requires-2-send-P : goal.law-requires-2-send-P
-law-requires-2-send-P g c κs within = search movable depth 40 fits 20000
+law-requires-2-send-P g c κs within = search (sendable, finished_send)
 
 pub law-requires-2-sync-P : goal.law-requires-2-sync-P
-law-requires-2-sync-P g c κs within = search movable depth 40 fits 20000
+law-requires-2-sync-P g c κs within = search (sendable, finished_sync)

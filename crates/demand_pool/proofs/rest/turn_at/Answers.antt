@@ -1,3 +1,4 @@
+use denote.Param.Send.{sendable}
 use Rattle.std.proofs.Common.{◌≡◌, ℕ, ◌+◌, ◌<◌, List, true, refl, sym, ap, ◌∙◌}
 use Rattle.std.proofs.Common.{subst, arith, get_or}
 use Rattle.racer_base.specs.declared.ids.MethodId.{MethodId}
@@ -5,7 +6,7 @@ use Rattle.core_code.specs.Calls.{is_analysed}
 use Rattle.core_code.specs.Core.{Core}
 use Rattle.core_code.specs.Program.{core}
 use Rattle.core_code.proofs.Analysed.{analysed_of}
-use Rattle.transfer.proofs.Movable.{movable}
+use Rattle.transfer.proofs.Movable.{finished_send, finished_sync}
 use Rattle.summary_store.specs.declared.machine.Event.{Event}
 use Rattle.summary_store.specs.Machine.{IsDone, replay}
 use Rattle.summary_store.specs.Setups.{setup_of}
@@ -123,13 +124,13 @@ analyse-requires-clause-analysed g c =
     (analysed_of (core g.L.StoreRun.program) c.args.m c.requires.analysed)
 
 pub demand_at-requires-send-P : goal.demand_at-requires-send-P
-demand_at-requires-send-P g c κs within = search movable depth 40 fits 20000
+demand_at-requires-send-P g c κs within = search (sendable, finished_send)
 
 pub demand_at-requires-sync-P : goal.demand_at-requires-sync-P
-demand_at-requires-sync-P g c κs within = search movable depth 40 fits 20000
+demand_at-requires-sync-P g c κs within = search (sendable, finished_sync)
 
 pub publish_at-requires-send-P : goal.publish_at-requires-send-P
-publish_at-requires-send-P g c κs within = search movable depth 40 fits 20000
+publish_at-requires-send-P g c κs within = search (sendable, finished_send)
 
 pub publish_at-requires-sync-P : goal.publish_at-requires-sync-P
-publish_at-requires-sync-P g c κs within = search movable depth 40 fits 20000
+publish_at-requires-sync-P g c κs within = search (sendable, finished_sync)

@@ -1,3 +1,4 @@
+use denote.Param.Send.{sendable}
 use Rattle.std.proofs.Common.{◌≡◌, ◌+◌, true, map, IfSome, get_or, refl, sym, ap, ◌∙◌, subst, arith}
 use Rattle.std.specs.Arc.{arc_value}
 use Rattle.racer_base.specs.declared.ids.MethodId.{MethodId}
@@ -5,7 +6,7 @@ use Rattle.core_code.specs.Calls.{is_analysed}
 use Rattle.core_code.specs.Core.{Core}
 use Rattle.core_code.specs.Program.{core}
 use Rattle.core_code.proofs.Analysed.{analysed_of}
-use Rattle.transfer.proofs.Movable.{movable}
+use Rattle.transfer.proofs.Movable.{finished_send, finished_sync}
 use Rattle.summary_store.specs.Passes.{PassView, pass_view}
 use Rattle.demand_pool.specs.RowPieces.{IsPieceFor, shared_in}
 use Rattle.demand_pool.specs.declared.row_pieces.FoundPiece.{FoundPiece}
@@ -86,7 +87,7 @@ analyse-requires-clause-analysed g c =
     (analysed_of (core g.L.StoreRun.program) c.args.m c.requires.analysed)
 
 pub publish-requires-send-P : goal.publish-requires-send-P
-publish-requires-send-P g c κs within = search movable depth 40 fits 20000
+publish-requires-send-P g c κs within = search (sendable, finished_send)
 
 pub publish-requires-sync-P : goal.publish-requires-sync-P
-publish-requires-sync-P g c κs within = search movable depth 40 fits 20000
+publish-requires-sync-P g c κs within = search (sendable, finished_sync)
