@@ -6,7 +6,8 @@ ghost use Rattle.core_semantics.specs.View.{frame_of, frames_of, seen_of, state_
 use crate::frame::Frame;
 use crate::monitors::Monitors;
 use crate::stack::Stack;
-use crate::thread::{Running, Thread};
+use crate::store::let_store_go;
+use crate::thread::{Running, Thread, let_thread_go};
 use crate::{Machine, Value};
 use racer_base::Memory;
 use std::alloc::Global;
@@ -75,6 +76,29 @@ fn thread_copied<'a>(alloc: Global, thread: &Thread<'a>) -> Result<Option<Thread
     }))
 }
 
+/// Threads that are equal to these two; none where one of them has no copy.
+fn threads_copied<'a>(
+    alloc: Global,
+    first: &Thread<'a>,
+    second: &Thread<'a>,
+) -> Result<Option<(Thread<'a>, Thread<'a>)>, Memory>
+    ensures first { IfOk result (λ copied. IfSome copied (λ both. seen_of both.0 ≡ seen_of first.now)) }
+    ensures second { IfOk result (λ copied. IfSome copied (λ both. seen_of both.1 ≡ seen_of second.now)) }
+{
+    let Some(one) = thread_copied(alloc, first)? else {
+        return Ok(None);
+    };
+    let Ok(other) = thread_copied(alloc, second) else {
+        let_thread_go(one);
+        return Err(Memory);
+    };
+    let Some(other) = other else {
+        let_thread_go(one);
+        return Ok(None);
+    };
+    Ok(Some((one, other)))
+}
+
 impl<'a> Machine<'a> {
     /// A machine that is equal to this one, or none. Which comes, no clause says: only a machine in which all start
     /// paths are objects is copied, and only while both threads are in the methods that they began in and hold no
@@ -85,10 +109,12 @@ impl<'a> Machine<'a> {
         let Some(store) = self.store.copied(self.alloc)? else {
             return Ok(None);
         };
-        let Some(first) = thread_copied(self.alloc, &self.first)? else {
-            return Ok(None);
+        let Ok(threads) = threads_copied(self.alloc, &self.first, &self.second) else {
+            let_store_go(store);
+            return Err(Memory);
         };
-        let Some(second) = thread_copied(self.alloc, &self.second)? else {
+        let Some((first, second)) = threads else {
+            let_store_go(store);
             return Ok(None);
         };
         Ok(Some(Machine {

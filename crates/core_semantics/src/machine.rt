@@ -17,7 +17,7 @@ use crate::frame::Frame;
 use crate::monitors::Monitors;
 use crate::step::{StepContext, step_thread};
 use crate::store::{Cells, Heap, Store};
-use crate::thread::{Running, Thread};
+use crate::thread::{Running, Thread, let_thread_go};
 use crate::{Object, Start, StartPath, StartRoot, StepAnswer, Turn, Value};
 use core_code::{MethodCore, Program};
 use racer_base::{Kind, Memory, MethodId};
@@ -127,6 +127,26 @@ fn thread_at<'a>(
     })
 }
 
+/// Two threads at the entries of two methods: the first at that of `m1`.
+fn threads_at<'a>(
+    alloc: Global,
+    program: &'a Program,
+    m1: MethodId,
+    m2: MethodId,
+) -> Result<(Thread<'a>, Thread<'a>), Memory>
+    ensures first { IfOk result (λ both. seen_of both.0 ≡ thread_at (core program.now) 0 m1) }
+    ensures second { IfOk result (λ both. seen_of both.1 ≡ thread_at (core program.now) 1 m2) }
+{
+    let Ok(first) = thread_at(alloc, program, 0, m1) else {
+        return Err(Memory);
+    };
+    let Ok(second) = thread_at(alloc, program, 1, m2) else {
+        let_thread_go(first);
+        return Err(Memory);
+    };
+    Ok((first, second))
+}
+
 /// A machine of two threads, with nothing stored.
 fn machine_of<'a>(alloc: Global, heap: Heap, first: Thread<'a>, second: Thread<'a>) -> Machine<'a>
     ensures { state_of result ≡ record {
@@ -161,10 +181,7 @@ pub fn begin<'a>(
     let Ok(heap) = Heap::of(alloc, start) else {
         return Err(Memory);
     };
-    let Ok(first) = thread_at(alloc, program, 0, m1) else {
-        return Err(Memory);
-    };
-    let Ok(second) = thread_at(alloc, program, 1, m2) else {
+    let Ok((first, second)) = threads_at(alloc, program, m1, m2) else {
         return Err(Memory);
     };
     Ok(machine_of(alloc, heap, first, second))
@@ -185,10 +202,7 @@ impl<'a> Machine<'a> {
         let Some(store) = self.store.copied(self.alloc)? else {
             return Ok(None);
         };
-        let Ok(first) = thread_at(self.alloc, program, 0, m1) else {
-            return Err(Memory);
-        };
-        let Ok(second) = thread_at(self.alloc, program, 1, m2) else {
+        let Ok((first, second)) = threads_at(self.alloc, program, m1, m2) else {
             return Err(Memory);
         };
         Ok(Some(Machine {

@@ -166,6 +166,9 @@ pub(crate) struct Store {
     pub fresh: u32,
 }
 
+/// Lets a store go. It is taken apart here alone, since a drop is proved again wherever it stands.
+pub(crate) fn let_store_go(_store: Store) {}
+
 impl Store {
     /// A store that holds the same, where all start paths are objects.
     pub(crate) fn copied(&self, alloc: Global) -> Result<Option<Store>, Memory>

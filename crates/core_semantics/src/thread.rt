@@ -19,3 +19,6 @@ pub(crate) struct Thread<'a> {
     /// The monitors that it holds, one for each time.
     pub locks: Monitors,
 }
+
+/// Lets a thread go. It is taken apart here alone, since a drop is proved again wherever it stands.
+pub(crate) fn let_thread_go(_thread: Thread) {}

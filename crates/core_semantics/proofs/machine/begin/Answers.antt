@@ -6,6 +6,6 @@ returns c =
     c.machine_of.ensures
     ∙ (λ i. record {
       store = record { heap = c.in-Ok.ensures i; cells = λ o f. None; fresh = 0 };
-      first = c.in-Ok-thread_at.ensures i;
-      second = c.in-Ok-thread_at-2.ensures i;
+      first = c.in-Ok-threads_at.ensures.first i;
+      second = c.in-Ok-threads_at.ensures.second i;
     })
