@@ -11,4 +11,3 @@ pub mod GivenLines
 pub mod Texts
 pub mod AddedRules
 pub mod Answered
-pub mod NotZero

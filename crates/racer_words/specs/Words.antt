@@ -1,12 +1,11 @@
 -- A contract of a public call rests on this: what the words of a command line ask for.
-use Rattle.std.specs.Prelude.{ℕ, Bool, false, not, ◌&&◌, ◌||◌, ◌==◌, ◌+◌, ◌*◌, ◌-◌, List, [], ◌∷◌, Option}
-use Rattle.std.specs.Prelude.{None, Some, length, fold, codes, bytes_eq, nat_le, is_some, option_map, if◌then◌else◌}
-use Rattle.std.specs.Prelude.{option_and_then}
+use Rattle.std.specs.Prelude.{ℕ, Bool, not, ◌&&◌, ◌||◌, List, [], ◌∷◌, Option, None, Some, codes, bytes_eq}
+use Rattle.std.specs.Prelude.{is_some, option_map, option_and_then, if◌then◌else◌}
 use Rattle.std.specs.List.{list_all, list_any}
-use Rattle.racer_base.specs.declared.limits.TheConstants.{MAX_WORKERS}
 use Rattle.race_report_modes.specs.declared.Format.{Format}
 use Rattle.race_report_modes.specs.declared.Format.TheVariants.{Text, Json as AsJson}
 use Rattle.race_report_modes.specs.declared.Mode.{Mode}
+use Rattle.racer_words_numbers.specs.Numbers.{up_to, workers_of}
 use Rattle.racer_words.specs.Uses.{Word, Line, Label, Folder, Workers, Json, Summaries, History, labels, name_of, line}
 use Rattle.racer_words.specs.Uses.{Replay as LabelReplay, Made as LabelMade}
 
@@ -35,26 +34,6 @@ pub data Request : Type 0 where
 -- a name of a folder or a file
 abbrev pub is_name : Word → Bool
 is_name word = not (bytes_eq word []) && not (bytes_eq word (codes "-"))
-
-abbrev pub is_digit : ℕ → Bool
-is_digit b = nat_le 48 b && nat_le b 57
-
--- one to three digits, of which the first is no `0` (48)
-abbrev pub is_number : Word → Bool
-is_number [] = false
-is_number (b ∷ bs) = not (b == 48) && (list_all is_digit (b ∷ bs) && nat_le (length (b ∷ bs)) 3)
-
-abbrev pub number : Word → ℕ
-number word = fold (λ n b. n * 10 + (b - 48)) 0 word
-
--- a number up to this one
-abbrev pub up_to : ℕ → Word → Option ℕ
-up_to most word = if is_number word && nat_le (number word) most then Some (number word) else None
-
--- 4 workers where the words name no number
-abbrev pub workers_of : Option Word → Option ℕ
-workers_of None = Some 4
-workers_of (Some word) = up_to MAX_WORKERS word
 
 -- ---- what may stand beside what
 

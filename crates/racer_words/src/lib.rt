@@ -9,7 +9,6 @@ mod command;
 mod forms;
 pub mod laws;
 mod line;
-mod numbers;
 mod read;
 mod request;
 

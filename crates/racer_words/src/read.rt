@@ -7,9 +7,9 @@ ghost use Rattle.racer_words.specs.Words.{asked_as, asked_by, is_name, report, r
 
 use crate::forms::{Form, form_of, stands_right};
 use crate::line::{GivenLine, given_line};
-use crate::numbers::{made_of, workers_of};
 use crate::request::{Request, WantedMade, WantedReplay, WantedReport};
 use racer_base::{Memory, Text};
+use racer_words_numbers::{made_of, workers_of};
 use std::alloc::Global;
 
 fn is_name(word: &str) -> bool

@@ -1,7 +1,7 @@
 use Rattle.std.proofs.Common.{◌≡◌, drop}
 use Rattle.std.specs.List.{list_all}
-use Rattle.racer_words.specs.Words.{is_digit}
-use Rattle.racer_words.proofs.numbers.are_digits.Given as goal
+use Rattle.racer_words_numbers.specs.Numbers.{is_digit}
+use Rattle.racer_words_numbers.proofs.numbers.are_digits.Given as goal
 
 abbrev pub invariant-loop-byte : goal.invariant-loop-byte
 invariant-loop-byte l = list_all is_digit (drop l.byte-index l.bytes) ≡ list_all is_digit l.fn.bytes

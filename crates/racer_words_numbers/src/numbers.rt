@@ -1,7 +1,7 @@
 //! Numbers on a command line: one to three decimal digits without a leading zero.
 ghost use Rattle.std.specs.Prelude.{◌≡◌, ◌<◌, ◌≤◌, ◌-◌, length, option_map, IfSome};
 ghost use Rattle.std.specs.List.{list_all};
-ghost use Rattle.racer_words.specs.Words.{is_digit, is_number, number, up_to, workers_of};
+ghost use Rattle.racer_words_numbers.specs.Numbers.{is_digit, is_number, number, up_to, workers_of};
 
 use racer_base::MAX_WORKERS;
 
