@@ -1,5 +1,5 @@
 -- Arrays that are put item by item, turn by turn of a loop.
-use Rattle.std.proofs.Common.{◌≡◌, ℕ, ◌+◌, Bool, true, false, List, [], ◌∷◌}
+use Rattle.std.proofs.Common.{◌≡◌, ℕ, Bool, true, false, List, [], ◌∷◌}
 use Rattle.std.proofs.Common.{◌++◌, codes, map}
 use Rattle.std.proofs.Common.{sym, ap, ◌∙◌, append_assoc, string_bytes}
 use Rattle.std.specs.List.{flat_map}

@@ -2,7 +2,7 @@
 use Rattle.std.proofs.Common.{◌≡◌, List, Option, None, Some, option_map, sym, ap, ◌∙◌}
 use Rattle.racer_base.specs.declared.ids.Place.{Place}
 use Rattle.core_code.specs.Core.{Core, Method}
-use Rattle.race_report_parts.specs.declared.sides.Side as side
+use Rattle.race_report_sides.specs.declared.sides.Side as side
 use Rattle.race_report_parts.specs.Places.{OwnedRecord, places_of}
 use Rattle.race_report_parts.specs.Sides.{side_told, sides_told}
 use Rattle.race_report_parts.specs.Told.{Side, side_from, sides_from}

@@ -1,7 +1,7 @@
 -- A contract of a public call rests on this: the records of warnings as the code holds them.
 use Rattle.race_report_parts.specs.declared.sides.OwnedRecord as held
-use Rattle.race_report_parts.specs.declared.sides.Side as side
-use Rattle.race_report_parts.specs.declared.sides.Sides as sides
+use Rattle.race_report_sides.specs.declared.sides.Side as side
+use Rattle.race_report_sides.specs.declared.sides.Sides as sides
 use Rattle.core_code.specs.Core.{method_of}
 use Rattle.race_report_parts.specs.Places.{OwnedRecord}
 use Rattle.race_report_parts.specs.Told.{Side, Sides}

@@ -44,7 +44,8 @@ pub use mark_lines::push_mark_lines;
 pub use mark_numbers::mark_at;
 pub use marks::{mark_word, push_leg, push_mark, push_start};
 pub use methods::{reason_of, summary_of};
-pub use sides::{Side, Sides, sides_of};
+pub use race_report_sides::{Side, Sides};
+pub use sides::sides_of;
 pub use summary_lines::push_summaries;
 pub use tables::{Site, place_at, sites};
 pub use texts::{

@@ -14,6 +14,7 @@ use crate::tables::{Site, site_at};
 use access_domain::{Access, Outcomes, record_of};
 use core_code::{MethodCore, Program};
 use race_pairs::Warning;
+use race_report_sides::{Side, Sides};
 use racer_base::{Memory, MethodId, Place};
 use std::alloc::Global;
 
@@ -22,21 +23,6 @@ use std::alloc::Global;
 struct OwnedRecord<'a> {
     method: MethodId,
     access: &'a Access,
-}
-
-/// One of the two records of a warning, with its places from the site down to the access.
-#[derive(Drop)]
-pub struct Side<'a> {
-    pub method: &'a MethodCore,
-    pub access: &'a Access,
-    pub places: Vec<Place>,
-}
-
-/// The two records of a warning, that of its entry first.
-#[derive(Drop)]
-pub struct Sides<'a> {
-    pub first: Side<'a>,
-    pub partner: Side<'a>,
 }
 
 /// The record of a method that has this index.

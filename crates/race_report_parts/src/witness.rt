@@ -119,7 +119,7 @@ fn push_witness_file(text: &mut Written, program: &Program, sides: &Sides<'_>, w
     push_entries(text, sides.first.method, sides.partner.method);
     push_legs(text, &witness.first, &witness.second);
     push_start_strings(text, ",\"objects\":", program, witness.objects.as_slice());
-    push_path_string(text, ",\"path\":", program, &sides.first.access.path);
+    push_path_string(text, ",\"path\":", program, sides.witness_path());
     push_text(text, ",\"version\":2}")
 }
 

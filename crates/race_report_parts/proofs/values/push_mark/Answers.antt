@@ -1,7 +1,6 @@
 use Rattle.std.proofs.Common.{◌++◌, ap, codes}
 use Rattle.serde_json.specs.Data.{string}
 use Rattle.serde_json.specs.Written.{compact_text}
-use Rattle.race_report_parts.specs.Marks.{mark_word}
 use Rattle.race_report_parts.proofs.PutChains.{four, same_piece}
 use Rattle.race_report_parts.proofs.values.push_mark.Goals as goal
 

@@ -3,7 +3,6 @@ use Rattle.serde_json.specs.Data.{string}
 use Rattle.serde_json.specs.Written.{compact_text}
 use Rattle.racer_base.specs.declared.ids.Place.{Place}
 use Rattle.core_code.specs.Program.{core}
-use Rattle.race_report_parts.specs.Texts.{touch_text}
 use Rattle.race_report_parts.specs.Pieces.{places_strings}
 use Rattle.race_report_parts.proofs.PutChains.{four, same_piece}
 use Rattle.race_report_parts.proofs.values.push_side_first.Goals as goal
