@@ -1,4 +1,4 @@
--- No public contract rests on this: records and paths that are added one after another.
+-- A contract of a public call rests on this: records and paths that are added one after another.
 use Rattle.std.specs.Prelude.{List, [], ◌∷◌, ◌++◌, if◌then◌else◌}
 use Rattle.std.specs.List.{list_any}
 use Rattle.std.specs.FinSet as set

@@ -13,12 +13,12 @@ use Rattle.access_domain.specs.Operations.{Effects}
 use Rattle.access_domain.specs.Records.{first_of_keys}
 use Rattle.access_domain.proofs.AdditionLemmas.{keys_added-nil}
 use Rattle.call_subst.specs.Numbered.{read_values}
-use Rattle.transfer.specs.declared.found.Found.{Found}
-use Rattle.transfer.specs.declared.found.Stop.{Stop}
-use Rattle.transfer.specs.Marks.{IsMarked, nothing}
-use Rattle.transfer.proofs.Callees.{firsts-added}
-use Rattle.transfer.proofs.Readings.{values-longer, all-longer}
-use Rattle.transfer.proofs.SlotsRead.{append-in}
+use Rattle.transfer_steps.specs.declared.found.Found.{Found}
+use Rattle.transfer_steps.specs.declared.found.Stop.{Stop}
+use Rattle.transfer_steps.specs.Marks.{IsMarked, nothing}
+use Rattle.transfer_steps.proofs.Callees.{firsts-added}
+use Rattle.transfer_steps.proofs.Readings.{values-longer, all-longer}
+use Rattle.transfer_steps.proofs.SlotsRead.{append-in}
 
 -- one more value, whose path is in a longer table
 module _ (old new : List Path) (on : GoesOn old new) (values : List NumberedValue) (v : NumberedValue)

@@ -1,33 +1,17 @@
 -- Rounds of a loop behind one that leaves its state as it was change nothing and lose the same paths again.
-use Rattle.std.proofs.Common.{◌≡◌, ℕ, zero, suc, ◌+◌, Bool, true, false, ◌||◌, List, ◌++◌}
+use Rattle.std.proofs.Common.{◌≡◌, ℕ, zero, suc, ◌+◌, List, ◌++◌}
 use Rattle.std.proofs.Common.{refl, sym, ap, ◌∙◌, arith, append_assoc}
 use Rattle.std.specs.FinSet as set
-use Rattle.std.specs.List.{list_any}
-use Rattle.std.specs.Ordering.{eq_by_cmp}
 use Rattle.access_paths.specs.declared.path.Path.{Path}
 use Rattle.access_paths.specs.Order.{PathSet, path_cmp}
-use Rattle.access_paths.specs.Same.{path_cmp-total, path_cmp-IsAntisymmetric}
 use Rattle.owner_domain.specs.declared.value.State.{State}
 use Rattle.access_domain.specs.Additions.{paths_added}
 use Rattle.access_domain.specs.Operations.{Effects}
 use Rattle.access_domain.specs.Flow.{rounds}
-use Rattle.access_domain.proofs.AdditionLemmas.{contains_added, paths_added-append, paths_added-empty}
+use Rattle.access_domain.proofs.AdditionLemmas.{paths_added-append, paths_added-empty}
 use Rattle.transfer_loops.specs.Rounds.{round_next, round_lost, IsSettled}
+use Rattle.transfer_steps.proofs.Adding.{added_again}
 use Rattle.transfer_bodies.proofs.ShorterCode.{rounds_turn}
-
-or_again : (a b : Bool) → ((a || b) || b) ≡ (a || b)
-or_again true b = refl
-or_again false true = refl
-or_again false false = refl
-
--- paths that were added are added again
-pub added_again : (w : PathSet) (ps : List Path) → paths_added (paths_added w ps) ps ≡ paths_added w ps
-added_again w ps =
-    set.same_set path_cmp-total path_cmp-IsAntisymmetric _ _
-    (λ q. contains_added (paths_added w ps) ps q
-    ∙ ap (λ b. b || list_any (eq_by_cmp path_cmp q) ps) (contains_added w ps q)
-    ∙ or_again (set.contains w q) (list_any (eq_by_cmp path_cmp q) ps)
-    ∙ sym (contains_added w ps q))
 
 -- some rounds and then others
 rounds-more : (body : State → Effects) (k n : ℕ) (s : State) → rounds body (k + n) s ≡ (

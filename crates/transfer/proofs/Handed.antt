@@ -1,5 +1,5 @@
 -- The outcomes of methods that are handed in.
-use Rattle.std.proofs.Common.{◌≡◌, ℕ, zero, suc, ◌+◌, ◌<◌, Bool, true, false, cond, ◌||◌}
+use Rattle.std.proofs.Common.{◌≡◌, ℕ, zero, suc, ◌<◌, Bool, true, false, cond, ◌||◌}
 use Rattle.std.proofs.Common.{List, [], ◌∷◌, ◌++◌, Option, None, Some}
 use Rattle.std.proofs.Common.{refl, sym, ap, ◌∙◌, option_map, nat_eq, nat_lt, is_some, is_none}
 use Rattle.std.proofs.Common.{All, slice_get, get_or, map, length}
@@ -21,10 +21,10 @@ use Rattle.access_domain.specs.declared.summary.Outcome.{Outcome}
 use Rattle.access_domain.specs.declared.summary.Outcome.TheVariants as code
 use Rattle.access_domain.specs.Findings.{outcome_from}
 use Rattle.access_domain.specs.Summaries.{outcome_of, known_of_callees, known_at, known_given}
-use Rattle.transfer.specs.declared.calls.Callee.{Callee}
+use Rattle.transfer_steps.specs.declared.calls.Callee.{Callee}
 use Rattle.transfer.specs.Callees.{SharedFinished, AreCallees, outcome_in}
-use Rattle.transfer.specs.Known.{known_in, callee_outcome, table_of}
-use Rattle.transfer.proofs.Callees.{held}
+use Rattle.transfer_steps.specs.Known.{known_in, callee_outcome, table_of}
+use Rattle.transfer_steps.proofs.Callees.{held}
 use Rattle.core_code.proofs.RowCallees.{is_method, nat_eq-same, analysed_at}
 use Rattle.core_code.proofs.KindLemmas.{where_analysed}
 use Rattle.core_code.proofs.NoCycles.{numbered}

@@ -15,11 +15,11 @@ use Rattle.transfer_loops.proofs.Heights.{IsSized, then_heights, either_heights,
 use Rattle.transfer_loops.proofs.Heights.{flow-sized, sized_pop, sized_round, sized_rounds}
 use Rattle.transfer_loops.proofs.Monotone.{rounds-state}
 use Rattle.transfer_loops.specs.Order.{rounded}
-use Rattle.std.specs.Prelude.{Result, Ok, Err, OnOk}
+use Rattle.std.specs.Prelude.{Ok}
 use Rattle.std.proofs.lemmas.Bool.{and_parts}
 use Rattle.transfer.specs.declared.resuming.Passed.{Passed}
 use Rattle.transfer.specs.Resumes.{heads_in, AreLeft, IsResumed}
-use Rattle.transfer.specs.Walks.{next_of}
+use Rattle.transfer_steps.specs.Walks.{next_of}
 use Rattle.transfer.specs.Heights.{IsHighEnough, AreSound}
 use Rattle.transfer_loops.specs.Rounds.{round_next, rounds_of}
 use Rattle.racer_base.proofs.Lists.{given_some}
@@ -129,10 +129,6 @@ round_resumed g body locked s x end old new passed same m high sound =
     let at : IsResumed g body locked 0 s end old new (Ok passed) =
     subst (λ (y : State). IsResumed g body locked 0 y end old new (Ok passed)) same m in
     let all = resumed_flow g body locked old new s high sound at.2 in (sym all.0 ∙ at.0, all.1)
-
-pub on_ok_then : {X E : Type 0} (r : Result X E) (P Q : Type 0) → OnOk r P → (P → Q) → OnOk r Q
-on_ok_then (Ok x) P Q p f = f p
-on_ok_then (Err e) P Q p f = tt
 
 pub one_more_none : (n : ℕ) → (replicate n (let o : Option State = None in o) ++ None ∷ []) ≡ replicate (n + 1)
     (let o : Option State = None in o)

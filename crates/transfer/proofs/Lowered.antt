@@ -16,19 +16,19 @@ use Rattle.access_domain.specs.Operations.{Effects}
 use Rattle.access_domain.specs.Flow.{flow}
 use Rattle.transfer_loops.specs.Resuming.{Heads}
 use Rattle.transfer_bodies.specs.Reaching.{above, all_above}
-use Rattle.transfer.specs.declared.found.Found.{Found}
-use Rattle.transfer.specs.declared.found.Stop.{Stop}
-use Rattle.transfer.specs.declared.found.Stop.TheVariants.{Large, Memory}
-use Rattle.transfer.specs.declared.numbered_found.NumberedFound.{NumberedFound}
+use Rattle.transfer_steps.specs.declared.found.Found.{Found}
+use Rattle.transfer_steps.specs.declared.found.Stop.{Stop}
+use Rattle.transfer_steps.specs.declared.found.Stop.TheVariants.{Large, Memory}
+use Rattle.transfer_steps.specs.declared.numbered_found.NumberedFound.{NumberedFound}
 use Rattle.transfer.specs.declared.resuming.Passed.{Passed}
 use Rattle.owner_domain.specs.Slots.{numbers_above}
 use Rattle.transfer.specs.Lifts.{IsLifted, IsLowered}
-use Rattle.transfer.specs.Marks.{IsStopped}
-use Rattle.transfer.specs.Numbered.{IsFlowOf}
+use Rattle.transfer_steps.specs.Marks.{IsStopped}
+use Rattle.transfer_steps.specs.Numbered.{IsFlowOf}
 use Rattle.transfer.specs.Resumes.{heads_in, IsResumed}
-use Rattle.transfer.specs.Walks.{IsFlow, next_of}
-use Rattle.transfer.proofs.Readings.{values-longer, all-longer}
-use Rattle.transfer.proofs.SlotsRead.{append-in}
+use Rattle.transfer_steps.specs.Walks.{IsFlow, next_of}
+use Rattle.transfer_steps.proofs.Readings.{values-longer, all-longer}
+use Rattle.transfer_steps.proofs.SlotsRead.{append-in}
 
 -- what is read, with values below it
 pub read-above : (table : List Path) (under : List NumberedValue) (s : NumberedState) →

@@ -1,7 +1,7 @@
 -- Rounds of a loop that are resumed over numbers.
-use Rattle.std.proofs.Common.{◌≡◌, ℕ, ◌<◌, Bool, true, false, not, List, Option, None, Some, option_map, length, sym}
+use Rattle.std.proofs.Common.{◌≡◌, ℕ, Bool, true, false, not, List, Option, Some, sym}
 use Rattle.std.proofs.Common.{ap, subst, ◌∙◌}
-use Rattle.std.specs.Prelude.{Ok, slice_index_or, slice_set}
+use Rattle.std.specs.Prelude.{Ok, slice_set}
 use Rattle.access_paths.specs.declared.path.Path.{Path}
 use Rattle.access_paths.specs.Table.{IsTable, GoesOn}
 use Rattle.owner_domain.specs.declared.value.State.{State}
@@ -10,15 +10,14 @@ use Rattle.owner_domain.specs.Numbered.{read_state, AreInRange}
 use Rattle.owner_domain.specs.Values.{joined_state}
 use Rattle.core_code.specs.Tree.{Tree}
 use Rattle.access_domain.specs.FlowContext.{FlowContext}
-use Rattle.transfer_loops.specs.Resuming.{entered}
 use Rattle.transfer_loops.specs.Rounds.{same_state}
 use Rattle.transfer.specs.declared.resuming.Passed.{Passed}
-use Rattle.transfer.specs.Numbered.{read_heads, IsHeadInRange, AreHeadsInRange, IsResumedIn}
-use Rattle.transfer.specs.Resumes.{heads_in, IsResumed, IsRound}
+use Rattle.transfer_steps.specs.Numbered.{read_heads, AreHeadsInRange, IsResumedIn}
+use Rattle.transfer.specs.Resumes.{IsResumed, IsRound}
 use Rattle.owner_domain.specs.Slots.{met_numbers, same_numbered}
-use Rattle.transfer.proofs.HeadsRead.{any_left, head-at, head-in, heads-put, heads-put-in, same-state}
+use Rattle.transfer_steps.proofs.HeadsRead.{heads-put, heads-put-in, same-state}
 use Rattle.owner_domain.proofs.Reading.{met-read, met-in}
-use Rattle.transfer.proofs.Readings.{state-longer, state-still}
+use Rattle.transfer_steps.proofs.Readings.{state-longer, state-still}
 use Rattle.transfer.proofs.ResumedRounds.{ended_round, joined_round}
 
 abbrev Left : Type 0
@@ -58,18 +57,6 @@ module _ (g : FlowContext) (body : Tree) (locked : Bool) (k : ℕ) (old new : Li
 -- ---- where a loop was left
 
 module _ (table : List Path) (hs : List Left) (k : ℕ) (low : AreHeadsInRange table hs) where
-  pub left-in : (left : Left) → k < length hs → left ≡ slice_index_or hs k left → IsHeadInRange table left
-  left-in left within is =
-      subst (IsHeadInRange table) (sym (is ∙ any_left hs k left None within)) (head-in table hs k low)
-
-  pub loop-begun : (left : Left) (s x : NumberedState) → k < length hs → left ≡ slice_index_or hs k left →
-      read_state table x ≡ entered (option_map (read_state table) left) (read_state table s) →
-      read_state table x ≡ entered (heads_in (read_heads table hs) k) (read_state table s)
-  loop-begun left s x within is begun =
-      begun
-      ∙ ap (λ (o : Option State). entered o (read_state table s))
-      (ap (option_map (read_state table)) (is ∙ any_left hs k left None within) ∙ sym (head-at table hs k))
-
   pub loop-put : (s x : NumberedState) → x ≡ s →
       read_heads table (slice_set hs k (Some x)) ≡ slice_set (read_heads table hs) k (Some (read_state table s))
   loop-put s x is =

@@ -13,7 +13,7 @@ use Rattle.transfer_loops.proofs.Settled.{same_state-equal}
 use Rattle.owner_domain.specs.Values.{joined_state}
 use Rattle.transfer.specs.declared.resuming.Passed.{Passed}
 use Rattle.transfer.specs.Resumes.{heads_in, IsResumed, IsRound, AreResumedRounds}
-use Rattle.transfer.specs.Walks.{next_of}
+use Rattle.transfer_steps.specs.Walks.{next_of}
 use Rattle.transfer.proofs.SameValues.{same-itself}
 use Rattle.racer_base.proofs.Tests.{different}
 

@@ -18,13 +18,13 @@ use Rattle.access_domain.specs.FlowContext.{FlowContext}
 use Rattle.access_domain.specs.Operations.{op_effects}
 use Rattle.transfer_loops.specs.Resuming.{Heads, resumed, loops}
 use Rattle.transfer.specs.declared.resuming.Passed.{Passed}
-use Rattle.transfer.specs.Numbered.{read_heads, AreHeadsInRange, IsResumedIn}
+use Rattle.transfer_steps.specs.Numbered.{read_heads, AreHeadsInRange, IsResumedIn}
 use Rattle.transfer.specs.Resumes.{heads_in, AreLeft, IsResumed}
 use Rattle.owner_domain.specs.Slots.{popped_numbers}
-use Rattle.transfer.specs.Walks.{next_of}
-use Rattle.transfer.proofs.HeadsRead.{heads-longer, heads-still}
-use Rattle.transfer.proofs.Readings.{state-longer, state-still}
-use Rattle.transfer.proofs.SlotsRead.{popped-read}
+use Rattle.transfer_steps.specs.Walks.{next_of}
+use Rattle.transfer_steps.proofs.HeadsRead.{heads-longer, heads-still}
+use Rattle.transfer_steps.proofs.Readings.{state-longer, state-still}
+use Rattle.transfer_steps.proofs.SlotsRead.{popped-read}
 
 abbrev Left : Type 0
 Left = Option NumberedState

@@ -9,15 +9,16 @@ use Rattle.owner_domain.specs.declared.value.State.{State}
 use Rattle.access_domain.specs.Additions.{paths_added}
 use Rattle.access_domain.specs.Operations.{Effects}
 use Rattle.access_domain.specs.Flow.{rounds, both}
-use Rattle.transfer.specs.declared.found.Found.{Found}
-use Rattle.transfer.specs.declared.found.Stop.{Stop}
-use Rattle.transfer.specs.Marks.{marks, added, IsNoted, IsStopped, IsMarked}
+use Rattle.transfer_steps.specs.declared.found.Found.{Found}
+use Rattle.transfer_steps.specs.declared.found.Stop.{Stop}
+use Rattle.transfer_steps.specs.Marks.{marks, added, IsNoted, IsStopped, IsMarked}
 use Rattle.transfer_loops.specs.Rounds.{round_next, round_lost, rounds_of}
-use Rattle.transfer.specs.Walks.{AreRoundsDone}
-use Rattle.transfer.proofs.JoinedResults.{joined_result-none, lost_result-none}
-use Rattle.transfer.proofs.Marking.{marked-then, marked-alike, stopped-first, stopped-alike}
-use Rattle.transfer.proofs.Flows.{append-alike, AreRounds, rounds-step, all_lost, here_last}
-use Rattle.transfer.proofs.EarlyEnds.{added_again}
+use Rattle.transfer_steps.specs.Walks.{AreRoundsDone}
+use Rattle.transfer_steps.proofs.JoinedResults.{joined_result-none, lost_result-none}
+use Rattle.transfer_steps.proofs.Marking.{marked-then, marked-alike, stopped-first, stopped-alike}
+use Rattle.transfer_steps.proofs.Flows.{append-alike}
+use Rattle.transfer.proofs.Ways.{AreRounds, rounds-step, all_lost, here_last}
+use Rattle.transfer_steps.proofs.Adding.{added_again}
 use Rattle.transfer_bodies.proofs.ShorterCode.{rounds_turn}
 
 abbrev with_paths : Found → PathSet → Found

@@ -11,19 +11,20 @@ use Rattle.core_code.specs.Tree.{Tree, Loop}
 use Rattle.access_domain.specs.FlowContext.{FlowContext}
 use Rattle.access_domain.specs.Flow.{flow}
 use Rattle.transfer_loops.specs.Rounds.{round_next, round_lost}
-use Rattle.transfer.specs.declared.found.Found.{Found}
-use Rattle.transfer.specs.declared.found.Stop.{Stop}
-use Rattle.transfer.specs.declared.numbered_found.NumberedFound.{NumberedFound}
+use Rattle.transfer_steps.specs.declared.found.Found.{Found}
+use Rattle.transfer_steps.specs.declared.found.Stop.{Stop}
+use Rattle.transfer_steps.specs.declared.numbered_found.NumberedFound.{NumberedFound}
 use Rattle.transfer.specs.declared.resuming.Passed.{Passed}
 use Rattle.transfer.specs.Heights.{IsHighEnough, AreSound}
-use Rattle.transfer.specs.Marks.{IsMarked, IsNoted, marks}
-use Rattle.transfer.specs.Numbered.{read_found, read_heads, IsFlowOf, IsResumedIn}
+use Rattle.transfer_steps.specs.Marks.{IsMarked, IsNoted, marks}
+use Rattle.transfer_steps.specs.Numbered.{read_found, read_heads, IsFlowOf, IsResumedIn}
 use Rattle.transfer.specs.Resumes.{IsResumed}
-use Rattle.transfer.specs.Walks.{next_of}
-use Rattle.transfer.proofs.HighEnough.{round_resumed, high_round, on_ok_then}
-use Rattle.transfer.proofs.Longer.{flow-still, marked-longer}
-use Rattle.transfer.proofs.Marking.{noted-nothing}
-use Rattle.transfer.proofs.Readings.{state-longer, found-longer}
+use Rattle.transfer_steps.specs.Walks.{next_of}
+use Rattle.transfer.proofs.HighEnough.{round_resumed, high_round}
+use Rattle.transfer_steps.proofs.Longer.{on_ok_then}
+use Rattle.transfer_steps.proofs.Longer.{flow-still, marked-longer}
+use Rattle.transfer_steps.proofs.Marking.{noted-nothing}
+use Rattle.transfer_steps.proofs.Readings.{state-longer, found-longer}
 
 module _ (g : FlowContext) (body : Tree) (locked : Bool) (older newer : List Path) (on : GoesOn older newer)
     (s x end : NumberedState) (hs mid : List (Option NumberedState)) (p : Passed) (f : NumberedFound) (same : x ≡ s)

@@ -11,12 +11,13 @@ use Rattle.transfer_loops.specs.Rounds.{rounds_of}
 use Rattle.transfer_loops.proofs.Heights.{loop_heights}
 use Rattle.transfer_bodies.specs.Shortening.{IsShorter}
 use Rattle.transfer_bodies.proofs.ShorterCode.{same_rounds}
-use Rattle.transfer.specs.declared.found.Found.{Found}
-use Rattle.transfer.specs.declared.found.Stop.{Stop}
+use Rattle.transfer_steps.specs.declared.found.Found.{Found}
+use Rattle.transfer_steps.specs.declared.found.Stop.{Stop}
 use Rattle.transfer.specs.Heights.{IsHighEnough}
-use Rattle.transfer.specs.Marks.{IsMarked, marks}
-use Rattle.transfer.specs.Walks.{AreRoundsDone}
-use Rattle.transfer.proofs.HighEnough.{on_ok_then, high_rounds}
+use Rattle.transfer_steps.specs.Marks.{IsMarked, marks}
+use Rattle.transfer_steps.specs.Walks.{AreRoundsDone}
+use Rattle.transfer.proofs.HighEnough.{high_rounds}
+use Rattle.transfer_steps.proofs.Longer.{on_ok_then}
 use Rattle.racer_base.proofs.Lists.{given_some}
 
 -- what is said of a shortened body, where the stack has this height

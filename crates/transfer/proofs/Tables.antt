@@ -36,7 +36,7 @@ use Rattle.access_domain.specs.Summaries.{findings_from, is_large, known_from, k
 use Rattle.access_domain.proofs.AdditionLemmas.{len-from_list}
 use Rattle.access_domain.proofs.Different.{from_list-different}
 use Rattle.call_subst.proofs.SameSets.{any-append, any-same_set, flat_map-same_set}
-use Rattle.transfer.proofs.Adding.{Agree, Alike, same_members}
+use Rattle.transfer_steps.proofs.Adding.{Agree, Alike, same_members}
 
 alike-itself : (e : Effects) → Alike e e
 alike-itself e = record { records = refl; wobbly = refl; result = refl; large = refl }

@@ -8,26 +8,26 @@ use Rattle.owner_domain.specs.declared.numbered.NumberedState.{NumberedState}
 use Rattle.owner_domain.specs.Numbered.{read_state, AreInRange}
 use Rattle.core_code.specs.Tree.{LockAt, Tree, Choice, Loop, Sync}
 use Rattle.access_domain.specs.FlowContext.{FlowContext}
-use Rattle.access_domain.specs.Operations.{Effects}
 use Rattle.access_domain.specs.Flow.{flow, rounds, joined_next, lost_next}
 use Rattle.transfer_loops.specs.Rounds.{rounds_of}
-use Rattle.transfer.specs.declared.found.Found.{Found}
-use Rattle.transfer.specs.declared.found.Stop.{Stop}
-use Rattle.transfer.specs.declared.noted_calls.NotedCall.{NotedCall}
-use Rattle.transfer.specs.declared.numbered_found.NumberedFound.{NumberedFound}
+use Rattle.transfer_steps.specs.declared.found.Found.{Found}
+use Rattle.transfer_steps.specs.declared.found.Stop.{Stop}
+use Rattle.transfer_steps.specs.declared.noted_calls.NotedCall.{NotedCall}
+use Rattle.transfer_steps.specs.declared.numbered_found.NumberedFound.{NumberedFound}
 use Rattle.transfer.specs.Heights.{IsHighEnough}
-use Rattle.transfer.specs.Marks.{IsMarked, IsNoted, IsStopped, marks}
-use Rattle.transfer.specs.NotedCalls.{AreFound}
-use Rattle.transfer.specs.Numbered.{read_found, read_calls, AreCallNumbers, IsFlowOf}
+use Rattle.transfer_steps.specs.Marks.{IsMarked, IsNoted, IsStopped, marks}
+use Rattle.transfer_steps.specs.NotedCalls.{AreFound}
+use Rattle.transfer_steps.specs.Numbered.{read_found, read_calls, AreCallNumbers, IsFlowOf}
 use Rattle.owner_domain.specs.Slots.{popped_numbers}
-use Rattle.transfer.specs.Walks.{IsFlow, AreRoundsDone, next_of}
-use Rattle.transfer.proofs.Callees.{marked-found, noted-found, flow-found}
-use Rattle.transfer.proofs.CallsRead.{calls-still, all-found-longer}
-use Rattle.transfer.proofs.Flows.{flow-chosen, stopped-right, rounds-ended, last-stopped}
-use Rattle.transfer.proofs.HighEnough.{high_held, high_body, on_ok_then}
-use Rattle.transfer.proofs.Readings.{state-longer, state-still}
+use Rattle.transfer_steps.specs.Walks.{IsFlow, AreRoundsDone, next_of}
+use Rattle.transfer_steps.proofs.Callees.{marked-found, noted-found}
+use Rattle.transfer_steps.proofs.CallsRead.{all-found-longer}
+use Rattle.transfer.proofs.Ways.{flow-chosen, stopped-right, rounds-ended, last-stopped}
+use Rattle.transfer.proofs.HighEnough.{high_held, high_body}
+use Rattle.transfer_steps.proofs.Longer.{on_ok_then}
+use Rattle.transfer_steps.proofs.Readings.{state-longer, state-still}
 use Rattle.transfer.proofs.Rounding.{rounds-left}
-use Rattle.transfer.proofs.SlotsRead.{popped-read, popped-in}
+use Rattle.transfer_steps.proofs.SlotsRead.{popped-read, popped-in}
 
 -- a copy of a state that was there before
 module _ (old new : List Path) (on : GoesOn old new) (s x : NumberedState) (same : x ≡ s) (low : AreInRange old s) where
@@ -118,30 +118,6 @@ module _ (g : FlowContext) (left right : Tree) (locked : Bool) (older newer : Li
         marked-found g (read_calls newest calls) (read_found newest f2) (read_found newest f3)
         (marks [] (lost_next (next_of p (read_state newest one)) (next_of q (read_state newest two)))) r
         (found newest ways-ready last.state) h
-
-pub always : {X E : Type 0} (r : Result X E) (P : Type 0) → P → OnOk r P
-always (Ok x) P p = p
-always (Err e) P p = tt
-
--- ---- operations that are no calls
-
-module _ (old new : List Path) (calls : List NotedCall) (called : AreCallNumbers old calls) (r : Result Bool Stop)
-    (on : OnOk r (GoesOn old new)) where
-  pub step-called : OnOk r (AreCallNumbers new calls)
-  step-called =
-      on_ok_then r (GoesOn old new) (AreCallNumbers new calls) on (λ longer. calls-still old new longer calls called)
-
-  pub step-calls : (g : FlowContext) (e : Effects) (here : State) (f later : NumberedFound) →
-      IsFlow e here (read_found old f) (read_found new later) r →
-      AreFound g (read_calls old calls) (read_found old f) →
-      OnOk r (AreFound g (read_calls new calls) (read_found new later))
-  step-calls g e here f later m h =
-      both r (flow-found g (read_calls old calls) here (read_found old f) (read_found new later) e r m h) on
-    where
-      both : (a : Result Bool Stop) → OnOk a (AreFound g (read_calls old calls) (read_found new later)) →
-          OnOk a (GoesOn old new) → OnOk a (AreFound g (read_calls new calls) (read_found new later))
-      both (Ok b) found longer = all-found-longer old new longer g calls (read_found new later) called found
-      both (Err s) found longer = tt
 
 -- ---- locks
 

@@ -14,9 +14,9 @@ use Rattle.access_domain.specs.Operations.{Effects}
 use Rattle.access_domain.specs.Summaries.{findings_from, is_large, known_from}
 use Rattle.access_domain.proofs.AdditionLemmas.{keys_added-nil, paths_added-empty, len-from_list}
 use Rattle.access_domain.proofs.Different.{from_list-different}
-use Rattle.transfer.specs.declared.found.Found.{Found}
-use Rattle.transfer.specs.declared.found.Stop.TheVariants as stop
-use Rattle.transfer.specs.Marks.{IsNoted, IsStopped, nothing, summary_held}
+use Rattle.transfer_steps.specs.declared.found.Found.{Found}
+use Rattle.transfer_steps.specs.declared.found.Stop.TheVariants as stop
+use Rattle.transfer_steps.specs.Marks.{IsNoted, IsStopped, nothing, summary_held}
 
 held-findings : (e : Effects) (new : Found) → IsNoted nothing e new → summary_held new ≡ summary_from (findings_from e)
 held-findings e new m =

@@ -1,13 +1,6 @@
 -- A contract of a public call rests on this: the list of files.
-pub mod Known
-pub mod Marks
-pub mod Contexts
-pub mod NotedCalls
-pub mod Walks
-pub mod Noting
 pub mod Callees
 pub mod Tables
 pub mod Resumes
 pub mod Heights
-pub mod Numbered
 pub mod Lifts

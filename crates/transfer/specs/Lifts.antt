@@ -10,8 +10,8 @@ use Rattle.access_domain.specs.FlowContext.{FlowContext}
 use Rattle.access_domain.specs.Flow.{flow}
 use Rattle.transfer_loops.specs.Resuming.{Heads, resumed}
 use Rattle.transfer_bodies.specs.Reaching.{above, all_above}
-use Rattle.transfer.specs.declared.found.Stop.{Stop}
-use Rattle.transfer.specs.declared.found.Stop.TheVariants.{Memory}
+use Rattle.transfer_steps.specs.declared.found.Stop.{Stop}
+use Rattle.transfer_steps.specs.declared.found.Stop.TheVariants.{Memory}
 use Rattle.transfer.specs.Heights.{IsHighEnough}
 
 -- these values lie below the stack of the new state in the old one, and the code finds the same over both

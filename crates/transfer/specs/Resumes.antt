@@ -5,7 +5,7 @@ use Rattle.owner_domain.specs.declared.value.State.{State}
 use Rattle.core_code.specs.Tree.{Tree}
 use Rattle.access_domain.specs.FlowContext.{FlowContext}
 use Rattle.transfer.specs.declared.resuming.Passed.{Passed}
-use Rattle.transfer.specs.Walks.{next_of}
+use Rattle.transfer_steps.specs.Walks.{next_of}
 use Rattle.transfer_loops.specs.Rounds.{round_next, same_state}
 use Rattle.transfer_loops.specs.Resuming.{Heads, resumed, loops, iterated}
 

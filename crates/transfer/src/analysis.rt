@@ -4,16 +4,16 @@ ghost use Rattle.std.specs.Arc.{arc_value};
 ghost use Rattle.racer_base.specs.declared.ids.MethodId.{MethodId as Id};
 ghost use Rattle.core_code.specs.Calls.{is_analysed};
 ghost use Rattle.core_code.specs.Program.{core};
-ghost use Rattle.transfer.specs.Known.{callee_outcome};
+ghost use Rattle.transfer_steps.specs.Known.{callee_outcome};
 ghost use Rattle.transfer.specs.Callees.{AreCallees, outcome_in};
 
 use crate::Finished;
-use crate::calls::Callee;
 use crate::method_outcomes::outcome;
 use core_code::Program;
 use racer_base::{Memory, MethodId};
 use std::alloc::Global;
 use std::sync::Arc;
+use transfer_steps::Callee;
 
 /// What is known of the methods that are finished.
 fn known(alloc: Global, finished: &[Arc<Finished>]) -> Result<Vec<Callee>, Memory>

@@ -4,31 +4,23 @@
 //! The definitions are those of `access_domain`: `specs/Flow.antt`, `specs/Operations.antt` and
 //! `specs/Summaries.antt`. A `Finished` keeps by its type that its outcome is its method's, for its program.
 //!
-//! What goes along is a `Walk`: its `Notes`, which are a table of paths and what was found by their numbers, and the
-//! calls whose findings are among these. The state stands beside it, since a choice goes on from two. What stands still
-//! is a `MethodContext`. `specs/Noting.antt` says what a walk stands on and what it makes of it, in a clause each.
+//! What goes along is a `Walk` of `transfer_steps`, which does each operation and joins states where ways meet.
 //!
 //! `let Ok(..) = .. else` and `match` stand in place of `?`: what has two ways out and more is proved at less cost so.
 //!
 //! A loop's rounds are a walk over states alone (`resuming.rt`), where only the paths that are lost at joins are
 //! noted; its body is gone through for what it finds once, under the last state. A loop in a loop goes on from the
-//! state in which it was left, joined with the one in which it is come to. A call is noted once, by its callee, its
-//! values and whether it is locked, since a site is no part of a key. Where more than 64 values lie under a choice
-//! that reaches none but the upper eight, the others are taken from under it and put back: a condition pops nothing
-//! below. `analyse` takes finished methods and no rows: those that the code calls, and more change nothing.
+//! state in which it was left, joined with the one in which it is come to. Where more than 64 values lie
+//! under a choice that reaches none but the upper eight, the others are taken from under it and put back: a condition
+//! pops nothing below. `analyse` takes finished methods and no rows: those that the code calls, and more change
+//! nothing.
 #![tactic(auto)]
 
 mod analysis;
-mod calls;
 mod finished;
-mod found;
 pub mod laws;
 mod lifting;
 mod method_outcomes;
-mod noted_calls;
-mod notes;
-mod numbered_found;
-mod operations;
 mod piece;
 mod reading;
 mod resuming;

@@ -4,12 +4,12 @@ ghost use Rattle.core_code.specs.Tree.{tree_of};
 ghost use Rattle.owner_domain.specs.Slots.{numbers_above};
 ghost use Rattle.transfer.specs.Lifts.{IsLifted, IsLowered};
 
-use crate::found::Stop;
 use core_code::Code;
 use owner_domain::{FlowState, NumberedValue};
 use racer_base::Memory;
 use std::alloc::Global;
 use transfer_bodies::is_within;
+use transfer_steps::Stop;
 
 /// A stack of so many values is copied whole.
 const LOW: usize = 64;

@@ -8,7 +8,7 @@ ghost use Rattle.owner_domain.specs.Numbered.{read_value, IsInRange, AllInRange}
 ghost use Rattle.access_domain.specs.Numbered.{read_accesses};
 ghost use Rattle.access_domain.specs.Records.{first_of_keys};
 ghost use Rattle.call_subst.specs.Numbered.{read_values};
-ghost use Rattle.transfer.specs.Numbered.{read_found, AreFoundNumbers};
+ghost use Rattle.transfer_steps.specs.Numbered.{read_found, AreFoundNumbers};
 ghost use Rattle.racer_base.specs.declared.limits.TheConstants.{MAX_SUMMARY_KEYS};
 ghost use Rattle.core_code.specs.Core.{method_of};
 ghost use Rattle.core_code.specs.Facts.{is_stack_enough};
@@ -16,15 +16,11 @@ ghost use Rattle.core_code.specs.Program.{core};
 ghost use Rattle.access_domain.specs.Findings.{outcome_from};
 ghost use Rattle.access_domain.specs.Operations.{Effects};
 ghost use Rattle.access_domain.specs.Summaries.{parameter_value, passed_values, start_of, known_from, known_given};
-ghost use Rattle.transfer.specs.Known.{table_of};
-ghost use Rattle.transfer.specs.Marks.{IsMarked, nothing, summary_held};
+ghost use Rattle.transfer_steps.specs.Known.{table_of};
+ghost use Rattle.transfer_steps.specs.Marks.{IsMarked, nothing, summary_held};
 
-use crate::calls::Callee;
-use crate::found::{Found, Stop};
-use crate::notes::{Notes, Walk};
-use crate::numbered_found::NumberedFound;
-use crate::operations::MethodContext;
 use crate::reading;
+use crate::walk::walk_code;
 use access_domain::{Outcome, Summary};
 use access_paths::{Path, PathTable, Root};
 use core_code::{MethodCore, Program};
@@ -33,6 +29,7 @@ use owner_domain::{FlowState, NumberedValue, Value};
 use racer_base::{Kind, Memory};
 use std::alloc::Global;
 use std::mem;
+use transfer_steps::{Callee, Found, MethodContext, Notes, NumberedFound, Stop, Walk};
 
 /// The value that is named by a root alone.
 fn root_value(alloc: Global, root: Root, table: &mut PathTable) -> Result<NumberedValue, Memory>
@@ -183,7 +180,7 @@ pub fn outcome(
         notes: Notes { table, found },
         calls: IndexSet::new(alloc),
     };
-    let walked = walk.walk_code(&context, &method.code, &mut state);
+    let walked = walk_code(&mut walk, &context, &method.code, &mut state);
     mem::drop(state);
     let Notes { table, found } = walk.notes;
     outcome_found(alloc, walked, &table, found)

@@ -3,16 +3,15 @@ ghost use Rattle.std.specs.Prelude.{◌≡◌, ◌<◌, IfOk, length, option_map
 ghost use Rattle.owner_domain.specs.Numbered.{read_value};
 ghost use Rattle.access_domain.specs.Numbered.{read_access, read_accesses, AreNumbered};
 ghost use Rattle.call_subst.specs.Numbered.{read_set, AreBelow};
-ghost use Rattle.transfer.specs.Numbered.{read_found, AreFoundNumbers, IsResultInRange};
+ghost use Rattle.transfer_steps.specs.Numbered.{read_found, AreFoundNumbers, IsResultInRange};
 ghost use Rattle.access_domain.specs.Records.{first_of_keys};
 
-use crate::found::Found;
-use crate::numbered_found::NumberedFound;
 use access_domain::{Access, Accesses, NumberedAccess};
 use access_paths::PathTable;
 use owner_domain::{NumberedValue, Value};
 use racer_base::Memory;
 use std::alloc::Global;
+use transfer_steps::{Found, NumberedFound};
 use wobbly_paths::{Adding, Wobbly};
 
 /// What was found, each path in place of its number.

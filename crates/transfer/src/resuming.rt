@@ -1,24 +1,21 @@
 //! Code gone through for the state at its end alone, with the states in which its loops were left.
-ghost use Rattle.std.specs.Prelude.{◌≡◌, ◌+◌, ◌≤◌, List, false, map, option_map, length, IfOk, OnOk};
-ghost use Rattle.access_paths.specs.declared.path.Path.{Path as TablePath};
-ghost use Rattle.access_paths.specs.Table.{IsTable, GoesOn};
-ghost use Rattle.owner_domain.specs.Numbered.{read_state, AreInRange};
+ghost use Rattle.std.specs.Prelude.{◌≡◌, ◌+◌, ◌≤◌, false, map, length, IfOk, OnOk};
+ghost use Rattle.access_paths.specs.Table.{GoesOn};
+ghost use Rattle.owner_domain.specs.Numbered.{read_state};
 ghost use Rattle.core_code.specs.Tree.{tree_of, in_sequence, Loop};
-ghost use Rattle.access_domain.specs.Flow.{joined_next};
-ghost use Rattle.transfer_loops.specs.Resuming.{loops, entered};
-ghost use Rattle.transfer.specs.Resumes.{heads_in, IsResumed, IsRound, AreResumedRounds};
-ghost use Rattle.transfer.specs.Contexts.{given};
-ghost use Rattle.transfer.specs.Numbered.{read_heads, IsResumedIn, IsHeadInRange};
-ghost use Rattle.transfer.specs.Walks.{next_of};
+ghost use Rattle.transfer_loops.specs.Resuming.{loops};
+ghost use Rattle.transfer.specs.Resumes.{IsResumed, IsRound, AreResumedRounds};
+ghost use Rattle.transfer_steps.specs.Contexts.{given};
+ghost use Rattle.transfer_steps.specs.Numbered.{read_heads, IsResumedIn};
 
 use crate::lifting::lifted;
-use crate::operations::{MethodContext, move_any};
 use access_paths::PathTable;
 use core_code::Code;
 use owner_domain::FlowState;
 use racer_base::Memory;
 use std::alloc::Global;
 use std::mem;
+use transfer_steps::{MethodContext, enter, meet_ends, move_any};
 
 /// Where code was left.
 #[derive(Clone, Copy)]
@@ -214,7 +211,7 @@ fn resume_loop(
     let Ok(inner) = sum(first, 1) else {
         return Err(Memory);
     };
-    let Ok(()) = go_on(context.alloc, &heads[first as usize], state) else {
+    let Ok(()) = enter(context.alloc, heads.as_slice(), first, state) else {
         return Err(Memory);
     };
     let Ok((next, changed)) = resume_round(context, body, inner, state, table, heads) else {
@@ -298,44 +295,4 @@ fn resume_round(
     }
     let changed = state.meet(end);
     Ok((passed.next, changed))
-}
-
-/// The state where two ways meet that each go on or not; whether there is one.
-fn meet_ends(
-    left_goes_on: bool,
-    right_goes_on: bool,
-    state: &mut FlowState,
-    other: FlowState,
-) -> bool
-    ensures next { (table : List TablePath) → IsTable table → AreInRange table state.old → AreInRange table other →
-        next_of result (read_state table state.new) ≡
-        joined_next (next_of left_goes_on (read_state table state.old)) (next_of right_goes_on (read_state table
-        other)) }
-    ensures numbers { (table : List TablePath) → IsTable table → AreInRange table state.old → AreInRange table other →
-        AreInRange table state.new }
-{
-    if !right_goes_on {
-        return left_goes_on;
-    }
-    if left_goes_on {
-        state.meet(other);
-    } else {
-        *state = other;
-    }
-    true
-}
-
-/// Joins the state in which a loop was left, if it was, with the values here.
-fn go_on(alloc: Global, left: &Option<FlowState>, state: &mut FlowState) -> Result<(), Memory>
-    ensures next { OnOk result ((table : List TablePath) → IsTable table → AreInRange table state.old → IsHeadInRange
-        table left.now →
-        read_state table state.new ≡
-        entered (option_map (read_state table) left.now) (read_state table state.old)) }
-    ensures numbers { OnOk result ((table : List TablePath) → IsTable table → AreInRange table state.old →
-        IsHeadInRange table left.now → AreInRange table state.new) }
-{
-    if let Some(left) = left {
-        state.meet(left.copied(alloc)?);
-    }
-    Ok(())
 }

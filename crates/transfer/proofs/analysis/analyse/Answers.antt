@@ -8,7 +8,7 @@ use Rattle.core_code.specs.Program.{core, methods}
 use Rattle.access_domain.specs.Findings.{outcome_from}
 use Rattle.access_domain.specs.Summaries.{known_given, outcome_of}
 use Rattle.core_code.proofs.RowCallees.{analysed_at}
-use Rattle.transfer.specs.Known.{table_of}
+use Rattle.transfer_steps.specs.Known.{table_of}
 use Rattle.transfer.proofs.HighEnough.{enough_at}
 use Rattle.transfer.proofs.Handed.{in_range, found_at, outcome-known}
 use Rattle.transfer.proofs.analysis.analyse.Goals as goal

@@ -2,10 +2,10 @@ use Rattle.std.proofs.Common.{◌+◌, List, ap, ◌∙◌, sym, drop, get_or, a
 use Rattle.std.specs.Arc.{arc_value}
 use Rattle.std.specs.Option.{option_or}
 use Rattle.std.proofs.lemmas.List.{at_drop_more, at_drop_all}
-use Rattle.transfer.specs.declared.calls.Callee.{Callee}
+use Rattle.transfer_steps.specs.declared.calls.Callee.{Callee}
 use Rattle.transfer.specs.declared.finished.Finished.{Finished}
 use Rattle.transfer.specs.Callees.{SharedFinished, outcome_in}
-use Rattle.transfer.specs.Known.{callee_outcome}
+use Rattle.transfer_steps.specs.Known.{callee_outcome}
 use Rattle.transfer.proofs.Handed.{one-more}
 use Rattle.racer_base.proofs.Lists.{option_or-none}
 use Rattle.transfer.proofs.analysis.known.Goals as goal

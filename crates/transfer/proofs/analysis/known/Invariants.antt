@@ -2,7 +2,7 @@ use Rattle.std.proofs.Common.{◌≡◌, drop}
 use Rattle.std.specs.Option.{option_or}
 use Rattle.racer_base.specs.declared.ids.MethodId.{MethodId}
 use Rattle.transfer.specs.Callees.{outcome_in}
-use Rattle.transfer.specs.Known.{callee_outcome}
+use Rattle.transfer_steps.specs.Known.{callee_outcome}
 use Rattle.transfer.proofs.analysis.known.Given as goal
 
 -- the methods that are known, and those that are left, are all of them

@@ -8,17 +8,18 @@ use Rattle.core_code.specs.Program.{core}
 use Rattle.access_domain.specs.Flow.{flow}
 use Rattle.access_domain.specs.FlowContext.{given_of}
 use Rattle.access_domain.specs.Summaries.{effects_given, start_of}
-use Rattle.transfer.specs.declared.found.Found.{Found}
-use Rattle.transfer.specs.declared.noted_calls.NotedCall.{NotedCall}
-use Rattle.transfer.specs.Known.{table_of}
-use Rattle.transfer.specs.Marks.{nothing}
-use Rattle.transfer.specs.NotedCalls.{AreFound}
-use Rattle.transfer.specs.Noting.{IsWalk}
-use Rattle.transfer.specs.Numbered.{read_found, read_calls, AreCallNumbers, AreFoundNumbers}
-use Rattle.transfer.specs.Walks.{IsFlow}
+use Rattle.transfer_steps.specs.declared.found.Found.{Found}
+use Rattle.transfer_steps.specs.declared.noted_calls.NotedCall.{NotedCall}
+use Rattle.transfer_steps.specs.Known.{table_of}
+use Rattle.transfer_steps.specs.Marks.{nothing}
+use Rattle.transfer_steps.specs.NotedCalls.{AreFound}
+use Rattle.transfer_steps.specs.Noting.{IsWalk}
+use Rattle.transfer_steps.specs.Numbered.{read_found, read_calls, AreCallNumbers, AreFoundNumbers}
+use Rattle.transfer_steps.specs.Walks.{IsFlow}
 use Rattle.transfer.proofs.Beginnings.{found-firsts}
-use Rattle.transfer.proofs.Flows.{marked-flow}
-use Rattle.transfer.proofs.HighEnough.{high_start, on_ok_then}
+use Rattle.transfer_steps.proofs.Flows.{marked-flow}
+use Rattle.transfer.proofs.HighEnough.{high_start}
+use Rattle.transfer_steps.proofs.Longer.{on_ok_then}
 use Rattle.transfer.proofs.Beginnings.{stack_of_values}
 use Rattle.transfer.proofs.method_outcomes.outcome.Goals as goal
 
@@ -55,7 +56,7 @@ outcome_found-requires-clause-numbers c =
     let method = method_of c.args.method.now in
     let g = given_of (core c.args.program.now) (table_of c.args.callees.now) method.main in
     let walked = c.walk_code-walked in
-    let new = walked.new.self in
+    let new = walked.new.walk in
     on_ok_then walked.result (IsWalk g new walked.new.state)
     (AreFoundNumbers new.notes.table new.notes.found) walked.ensures.ready (λ all. all.numbers.noted)
 
@@ -69,7 +70,7 @@ outcome_found-requires-clause-firsts c =
     ap (read_state table) c.new-state.ensures
     ∙ ap (λ (vars : List Value). stack_of_values vars) c.in-Ok.ensures.values in
     let e = effects_given (core c.args.program.now) (table_of c.args.callees.now) method in
-    let new = walked.new.self.notes in
+    let new = walked.new.walk.notes in
     let end = read_state new.table walked.new.state in
     let found = read_found new.table new.found in
     found-firsts e found walked.result
@@ -88,7 +89,7 @@ returns c =
     ap (read_state table) c.new-state.ensures
     ∙ ap (λ (vars : List Value). stack_of_values vars) c.in-Ok.ensures.values in
     let e = effects_given (core c.args.program.now) (table_of c.args.callees.now) method in
-    let new = walked.new.self.notes in
+    let new = walked.new.walk.notes in
     let end = read_state new.table walked.new.state in
     let found = read_found new.table new.found in
     c.outcome_found.ensures e

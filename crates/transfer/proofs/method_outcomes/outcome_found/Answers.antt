@@ -1,8 +1,8 @@
 use Rattle.std.proofs.Common.{Bool, subst, ap, ◌∙◌}
 use Rattle.std.specs.Prelude.{Result}
-use Rattle.transfer.specs.declared.found.Stop.{Stop}
-use Rattle.transfer.specs.Marks.{IsMarked, IsStopped, nothing, summary_held}
-use Rattle.transfer.specs.Numbered.{read_found}
+use Rattle.transfer_steps.specs.declared.found.Stop.{Stop}
+use Rattle.transfer_steps.specs.Marks.{IsMarked, IsStopped, nothing, summary_held}
+use Rattle.transfer_steps.specs.Numbered.{read_found}
 use Rattle.transfer.proofs.Wholes.{outcome-whole, outcome-large}
 use Rattle.transfer.proofs.method_outcomes.outcome_found.Goals as goal
 

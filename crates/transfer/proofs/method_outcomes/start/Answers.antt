@@ -8,7 +8,7 @@ use Rattle.owner_domain.specs.Numbered.{read_value, AllInRange}
 use Rattle.call_subst.specs.Numbered.{read_values}
 use Rattle.core_code.specs.Core.{method_of}
 use Rattle.access_domain.specs.Summaries.{passed_values}
-use Rattle.transfer.proofs.SlotsRead.{append-in}
+use Rattle.transfer_steps.proofs.SlotsRead.{append-in}
 use Rattle.owner_domain.proofs.Stacks.{replicate-turn}
 use Rattle.transfer.proofs.method_outcomes.start.Goals as goal
 

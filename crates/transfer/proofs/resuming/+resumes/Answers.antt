@@ -1,4 +1,4 @@
-use Rattle.std.proofs.Common.{◌≡◌, ◌+◌, ◌-◌, suc, ℕ, ◌≤◌, ◌<◌, Some, length, map, drop, reverse}
+use Rattle.std.proofs.Common.{◌≡◌, ◌+◌, ◌-◌, suc, ℕ, ◌≤◌, ◌<◌, List, Option, Some, length, map, drop, reverse}
 use Rattle.std.proofs.Common.{true, Ok, refl, sym, ap, subst, ◌∙◌, arith, rules}
 use Rattle.std.proofs.lemmas.List.{at_drop_all, take_all, length-drop}
 use Rattle.std.specs.Prelude.{slice_set}
@@ -14,21 +14,22 @@ use Rattle.core_code.proofs.code.Code.TheLaws.{the_size}
 use borrow.Author.Sizes.{sizes}
 use Rattle.core_code.specs.Tree.{LockAt, Tree, Op, Seq, Choice, Loop, Sync, tree_of, in_sequence}
 use Rattle.core_code.proofs.PartsLeft.{parts-turn}
-use Rattle.transfer_loops.specs.Resuming.{Heads, resumed, loops, iterated}
+use Rattle.transfer_loops.specs.Resuming.{Heads, resumed, loops, entered, iterated}
 use Rattle.transfer.specs.declared.resuming.Passed.{Passed}
-use Rattle.transfer.specs.declared.operations.MethodContext.{MethodContext}
-use Rattle.transfer.specs.Contexts.{given}
-use Rattle.transfer.specs.Numbered.{read_heads, IsResumedIn}
+use Rattle.transfer_steps.specs.declared.operations.MethodContext.{MethodContext}
+use Rattle.transfer_steps.specs.Contexts.{given}
+use Rattle.transfer_steps.specs.Numbered.{read_heads, AreHeadsInRange, IsResumedIn}
 use Rattle.transfer.specs.Resumes.{heads_in, IsResumed, IsRound, AreResumedRounds}
-use Rattle.transfer.proofs.HeadsRead.{long-back, long-read, heads-long, heads-still, rounds-read}
-use Rattle.transfer.proofs.NumberedRounds.{round-kept, round-met, left-in, loop-begun, loop-put, loop-in}
-use Rattle.transfer.proofs.Readings.{state-still}
+use Rattle.transfer_steps.proofs.HeadsRead.{long-back, long-read, heads-long, heads-still, rounds-read}
+use Rattle.transfer.proofs.NumberedRounds.{round-kept, round-met, loop-put, loop-in}
+use Rattle.transfer_steps.proofs.Readings.{state-still}
 use Rattle.transfer.proofs.ResumedRounds.{round_goes_on, round_ends, loop_kept, loop_left}
 use Rattle.transfer.proofs.Resumptions.{op-resumed, choice-resumed, sync-resumed}
 use Rattle.transfer.proofs.Resumptions.{through-more, through-number}
 use Rattle.transfer.proofs.ResumedParts.{passed-behind, through-done, through-passed, room-right}
 use Rattle.owner_domain.proofs.Reading.{met-in}
-use Rattle.transfer.proofs.WalkedNumbers.{copied-in, always}
+use Rattle.transfer.proofs.WalkedNumbers.{copied-in}
+use Rattle.transfer_steps.proofs.Longer.{always}
 use Rattle.transfer.proofs.Lowered.{lifted-in, lowered-in, lowered-resumed}
 use Rattle.transfer.proofs.resuming.+resumes.Goals as goal
 
@@ -144,6 +145,12 @@ resume_rounds-returns t c =
 
 -- ---- a loop
 
+pub resume_loop-enter-requires : goal.resume_loop-enter-requires
+resume_loop-enter-requires t c =
+    let body = tree_of c.args.body.now in
+    let room : c.args.first + suc (loops body) ≤ length c.args.heads.now.items = c.requires.room in
+    omega (arith, ap length c.as_slice.ensures.value)
+
 pub resume_loop-resume_round-requires : goal.resume_loop-resume_round-requires
 resume_loop-resume_round-requires t c =
     let table = c.args.table.now in
@@ -151,16 +158,15 @@ resume_loop-resume_round-requires t c =
     let body = tree_of c.args.body.now in
     let first = c.args.first in
     let room : first + suc (loops body) ≤ length old = c.requires.room in
-    let low : first < length old = omega arith in
     let behind : c.in-Ok.inner + loops body ≤ length old = omega (arith, c.in-Ok.ensures) in
     let ready = c.requires.numbers in
-    let head = left-in table old first ready.left c.index.result.now low c.index.ensures in (
+    let kept = subst (AreHeadsInRange table) (sym c.as_slice.ensures.value) ready.left in (
       search rules,
       (
         behind,
         record {
           once = ready.once;
-          state = c.in-Ok-go_on.ensures.numbers table ready.once ready.state head;
+          state = c.in-Ok-enter.ensures.numbers table ready.once ready.state kept;
           left = ready.left;
         },
       ),
@@ -174,27 +180,26 @@ resume_loop-returns-then-not-changed t c =
     let old = c.args.heads.now.items in
     let start = c.args.state.now in
     let first = c.args.first in
-    let left = c.index.result.now in
-    let low : first < length old =
-    let room : first + suc (loops body) ≤ length old = c.requires.room in omega arith in
     let ready = c.requires.numbers in
-    let is = c.index.ensures in
+    let begun =
+    c.in-Ok-enter.ensures.next older ready.once ready.state
+    (subst (AreHeadsInRange older) (sym c.as_slice.ensures.value) ready.left)
+    ∙ ap (λ (hs : List (Option NumberedState)). entered (heads_in (read_heads older hs) first) (read_state older start))
+    c.as_slice.ensures.value in
     let new = c.resume_round.new in
     let k = c.in-Ok-resume_round.ensures in
     let round =
-    subst (λ (n : ℕ). IsRound g body c.args.context.now.locked n (read_state older c.go_on.new.state)
+    subst (λ (n : ℕ). IsRound g body c.args.context.now.locked n (read_state older c.enter.new.state)
     (read_state new.table new.state) (read_heads older old) (read_heads new.table new.heads.items)
     (Ok (c.in-Ok-resume_round.next, c.in-Ok-resume_round.changed))) c.in-Ok.ensures k.resumed in
     record {
       resumed =
           loop_kept g body c.args.context.now.locked first c.in-Ok-resume_round.next c.rounds-rounds.result
           (read_state older start)
-          (read_state older c.go_on.new.state) (read_state new.table new.state) (read_heads older old)
+          (read_state older c.enter.new.state) (read_state new.table new.state) (read_heads older old)
           (read_heads new.table new.heads.items) c.in-Ok-resume_round.changed
           (rounds-read older start c.rounds-rounds.result c.rounds-rounds.ensures)
-          (loop-begun older old first ready.left left start c.go_on.new.state low is
-          (c.in-Ok-go_on.ensures.next older ready.once ready.state (left-in older old first ready.left left low is)))
-          round c.if-not-changed.true;
+          begun round c.if-not-changed.true;
       numbers = k.numbers;
       table = k.table;
     }
@@ -207,11 +212,14 @@ resume_loop-returns t c =
     let old = c.args.heads.now.items in
     let start = c.args.state.now in
     let first = c.args.first in
-    let left = c.index.result.now in
     let low : first < length old =
     let room : first + suc (loops body) ≤ length old = c.requires.room in omega arith in
     let ready = c.requires.numbers in
-    let is = c.index.ensures in
+    let begun =
+    c.in-Ok-enter.ensures.next older ready.once ready.state
+    (subst (AreHeadsInRange older) (sym c.as_slice.ensures.value) ready.left)
+    ∙ ap (λ (hs : List (Option NumberedState)). entered (heads_in (read_heads older hs) first) (read_state older start))
+    c.as_slice.ensures.value in
     let mid = c.resume_round.new in
     let now = c.resume_rounds.new in
     let end = c.in-Ok-copied.left in
@@ -219,7 +227,7 @@ resume_loop-returns t c =
     let m = c.in-Ok-resume_rounds.ensures in
     let within : first < length (read_heads older old) = omega (arith, heads-long older old) in
     let round =
-    subst (λ (n : ℕ). IsRound g body c.args.context.now.locked n (read_state older c.go_on.new.state)
+    subst (λ (n : ℕ). IsRound g body c.args.context.now.locked n (read_state older c.enter.new.state)
     (read_state mid.table mid.state) (read_heads older old) (read_heads mid.table mid.heads.items)
     (Ok (c.in-Ok-resume_round.next, c.in-Ok-resume_round.changed))) c.in-Ok.ensures k.resumed in
     let rounds =
@@ -230,13 +238,11 @@ resume_loop-returns t c =
       resumed =
           loop_left g body c.args.context.now.locked first c.in-Ok-resume_round.next c.rounds-rounds.result
           (read_state older start)
-          (read_state older c.go_on.new.state) (read_state mid.table mid.state) (read_state now.table now.state)
+          (read_state older c.enter.new.state) (read_state mid.table mid.state) (read_state now.table now.state)
           (read_heads older old) (read_heads mid.table mid.heads.items) (read_heads now.table now.heads.items)
           (read_heads now.table (slice_set now.heads.items first (Some end))) c.in-Ok-resume_round.changed
           (rounds-read older start c.rounds-rounds.result c.rounds-rounds.ensures) within
-          (loop-begun older old first ready.left left start c.go_on.new.state low is
-          (c.in-Ok-go_on.ensures.next older ready.once ready.state (left-in older old first ready.left left low is)))
-          round c.if-not-changed.false rounds
+          begun round c.if-not-changed.false rounds
           (loop-put now.table now.heads.items first m.numbers.left now.state end c.in-Ok-copied.ensures);
       numbers =
           loop-in now.table now.heads.items first m.numbers.left now.state end m.numbers.once m.numbers.state

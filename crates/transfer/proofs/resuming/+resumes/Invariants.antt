@@ -3,8 +3,8 @@ use Rattle.access_paths.specs.Table.{GoesOn}
 use Rattle.owner_domain.specs.Numbered.{read_state}
 use Rattle.core_code.specs.Tree.{tree_of, in_sequence}
 use Rattle.transfer_loops.specs.Resuming.{loops, resumed, iterated}
-use Rattle.transfer.specs.Contexts.{given}
-use Rattle.transfer.specs.Numbered.{read_heads, IsResumedIn}
+use Rattle.transfer_steps.specs.Contexts.{given}
+use Rattle.transfer_steps.specs.Numbered.{read_heads, IsResumedIn}
 use Rattle.transfer.specs.Resumes.{heads_in}
 use Rattle.transfer.proofs.resuming.+resumes.Given as goal
 

@@ -1,7 +1,0 @@
-use Rattle.std.proofs.Common.{◌≡◌, drop}
-use Rattle.transfer.specs.Known.{callee_outcome}
-use Rattle.transfer.proofs.calls.callee_outcome.Given as goal
-
-abbrev pub invariant-loop-callee : goal.invariant-loop-callee
-invariant-loop-callee l =
-    callee_outcome (drop l.callee-index l.callees) l.method ≡ callee_outcome l.callees l.method

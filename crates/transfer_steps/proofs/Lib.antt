@@ -1,0 +1,16 @@
+pub mod JoinedResults
+pub mod Adding
+pub mod Marking
+pub mod Readings
+pub mod SlotsRead
+pub mod FoundNumbers
+pub mod Flows
+pub mod NumberedSteps
+pub mod Callees
+pub mod CallsRead
+pub mod HeadsRead
+pub mod Noting
+pub mod FieldNumbers
+pub mod Longer
+pub mod CallNotes
+pub mod CallSteps
