@@ -1,4 +1,3 @@
-pub mod Adding
 mod FirstOnes
 mod Repeats
 mod LastNames
@@ -7,4 +6,3 @@ mod ByClass
 mod Loops
 mod Searches
 mod Behind
-mod LockParts

@@ -24,7 +24,8 @@ use Rattle.java_resolver.specs.declared.infos.ClassInfo.{ClassInfo}
 use Rattle.java_resolver.specs.declared.infos.FieldInfo.{FieldInfo}
 use Rattle.java_resolver.specs.declared.infos.MethodInfo.{MethodInfo}
 use Rattle.java_resolver.specs.Words.{is_annotation_named, has_word, is_annotated}
-use Rattle.java_resolver.specs.TypeKinds.{kind_of, is_other, is_lock_type}
+use Rattle.java_resolver.specs.TypeKinds.{kind_of}
+use Rattle.java_resolver_parts.specs.LockTypes.{is_other, is_lock_type}
 
 -- ---- classes
 

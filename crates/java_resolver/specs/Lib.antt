@@ -6,7 +6,6 @@ pub mod Declarations
 pub mod Meanings
 pub mod Refusals
 pub mod NameExamples
-pub mod Numbers
 pub mod Indexes
 pub mod Faults
 pub mod Table

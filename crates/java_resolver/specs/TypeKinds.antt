@@ -1,10 +1,9 @@
 -- A contract of a public call rests on this: what a type means: a primitive one, a class of the folder, or another.
-use Rattle.std.specs.Prelude.{ℕ, Bool, true, false, ◌&&◌, ◌||◌, List, Option, Some, None, bytes_eq, codes}
-use Rattle.std.specs.Prelude.{if◌then◌else◌, option_map, ◌==◌}
+use Rattle.std.specs.Prelude.{ℕ, List, Option, Some, None, bytes_eq, if◌then◌else◌, option_map, ◌==◌}
 use Rattle.racer_base.specs.declared.ids.ClassId.{ClassId}
 use Rattle.racer_base.specs.declared.ids.Kind.{Kind}
 use Rattle.racer_base.specs.declared.ids.Kind.TheVariants as kind
-use Rattle.java_tree.specs.Trees.{Ty, Typed, Base, Plain, Named, Parts, no_part, part_then, Part, Bare}
+use Rattle.java_tree.specs.Trees.{Ty, Typed, Base, Plain, Named, no_part, part_then, Bare}
 use Rattle.java_resolver.specs.Firsts.{first_that}
 
 -- the class of this name, among the names of all classes
@@ -24,27 +23,3 @@ base_kind classes _ = kind.Other
 -- arrays are neither
 abbrev pub kind_of : List (List ℕ) → Ty → Kind
 kind_of classes (Typed base arrays) = if arrays == 0 then base_kind classes base else kind.Other
-
-abbrev pub is_other : Kind → Bool
-is_other kind.Other = true
-is_other _ = false
-
--- ---- types of explicit locks
-
-abbrev pub is_lock_part : Part → Bool
-is_lock_part (Bare name) = bytes_eq name (codes "Lock") || bytes_eq name (codes "ReentrantLock")
-is_lock_part _ = false
-
-abbrev pub is_bare : Part → Bool
-is_bare (Bare name) = true
-is_bare _ = false
-
--- names without arguments, of which the last is `Lock` or `ReentrantLock`
-abbrev pub are_lock_parts : Parts → Bool
-are_lock_parts no_part = false
-are_lock_parts (part_then part no_part) = is_lock_part part
-are_lock_parts (part_then part parts) = is_bare part && are_lock_parts parts
-
-abbrev pub is_lock_type : Ty → Bool
-is_lock_type (Typed (Named parts) arrays) = arrays == 0 && are_lock_parts parts
-is_lock_type _ = false

@@ -8,8 +8,8 @@ ghost use Rattle.java_resolver.specs.Faults.{IsFault};
 
 use crate::fault::ResolveFault;
 use crate::infos::ClassInfo;
-use crate::numbers::{Key, Named, add_number, no_numbers, number_at};
 use crate::words::is_checked;
+use java_resolver_parts::{Key, Named, add_number, no_numbers, number_at};
 use java_tree::{ClassTree, Unit};
 use racer_base::{ClassId, Memory};
 use std::alloc::Global;

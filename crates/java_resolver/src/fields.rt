@@ -11,9 +11,9 @@ ghost use Rattle.java_resolver.specs.Faults.{IsFault};
 use crate::classes::Classes;
 use crate::fault::ResolveFault;
 use crate::infos::FieldInfo;
-use crate::kinds::{is_lock_type, is_other, kind_of};
-use crate::numbers::{Named, add_number, no_numbers, number_at, number_of};
+use crate::kinds::kind_of;
 use crate::words::has_word;
+use java_resolver_parts::{Named, add_number, is_lock, no_numbers, number_at, number_of};
 use java_tree::{ClassTree, FieldTree, FieldVariable, Member};
 use racer_base::{ClassId, FieldId, Memory};
 use std::alloc::Global;
@@ -120,9 +120,8 @@ impl Fields {
 fn is_lock_field(classes: &Classes, field: &FieldTree) -> bool
     ensures { result ≡ is_lock_field (class_names classes.now) field.now }
 {
-    has_word(field.modifiers.as_slice(), "final")
-        && is_other(kind_of(classes, &field.kind))
-        && is_lock_type(&field.kind)
+    let is_final = has_word(field.modifiers.as_slice(), "final");
+    is_lock(is_final, kind_of(classes, &field.kind), &field.kind)
 }
 
 /// What is known of a field.

@@ -16,7 +16,6 @@ mod infos;
 mod kinds;
 pub mod laws;
 mod methods;
-mod numbers;
 mod scope;
 mod table;
 mod words;

@@ -15,8 +15,8 @@ use crate::classes::Classes;
 use crate::fault::ResolveFault;
 use crate::infos::MethodInfo;
 use crate::kinds::{head_kind, kind_of, result_kind};
-use crate::numbers::{Named, add_number, no_numbers, number_at, number_of};
 use crate::words::{has_word, is_annotated};
+use java_resolver_parts::{Named, add_number, no_numbers, number_at, number_of};
 use java_tree::{
     ClassTree, HeadResult, Member, MethodTree, OutsideHead, ParameterTree, ResultTree,
 };

@@ -1,4 +1,4 @@
--- No public contract rests on this: how numbers are kept by a name and a key, the first of each.
+-- A contract of a public call rests on this: how numbers are kept by a name and a key, the first of each.
 use Rattle.std.specs.Prelude.{◌≡◌, ℕ, nat_eq, Bool, ◌&&◌, List, Option, Some, None, bytes_eq, if◌then◌else◌}
 use Rattle.std.specs.Prelude.{option_and_then, String}
 use Rattle.std.specs.Option.{option_or}

@@ -1,11 +1,10 @@
 -- A number that goes to a name and a key.
 use Rattle.std.proofs.Common.{◌≡◌, ℕ, true, false, cond, List, Some, refl, sym, ap, ◌∙◌}
 use Rattle.std.specs.Prelude.{bytes_eq, ◌&&◌}
-use Rattle.std.specs.Option.{option_or}
 use Rattle.std.specs.Cmp.Lexicographic.{same_text}
 use Rattle.std.specs.BTreeMap.{get_by_text}
-use Rattle.java_resolver.specs.Numbers.{Key, key_eq, Keyed, Named, keyed_at, number_in, number_at, or_added}
-use Rattle.java_resolver.specs.Numbers.{AddsNumber}
+use Rattle.java_resolver_parts.specs.Numbers.{Key, key_eq, Keyed, Named, keyed_at, number_in, number_at, or_added}
+use Rattle.java_resolver_parts.specs.Numbers.{AddsNumber}
 use Rattle.racer_base.proofs.Lists.{option_or-none}
 
 pub number_added : (old new : Named) (name : List ℕ) (key : Key) (number : ℕ) (keyed : Keyed) →

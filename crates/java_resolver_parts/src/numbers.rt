@@ -1,6 +1,6 @@
 //! Numbers by a name and a key, the first of each.
 ghost use Rattle.std.specs.Prelude.{◌≡◌, List, ℕ, None, IfOk, OnOk};
-ghost use Rattle.java_resolver.specs.Numbers.{Key, keyed_at, number_at, AddsKeyed, AddsNumber};
+ghost use Rattle.java_resolver_parts.specs.Numbers.{Key, keyed_at, number_at, AddsKeyed, AddsNumber};
 
 use racer_base::Memory;
 use std::alloc::Global;

@@ -1,8 +1,8 @@
 use Rattle.std.proofs.Common.{◌≡◌, map, length}
 use Rattle.java_tree.specs.Trees.{pack_parts}
 use Rattle.java_tree.specs.View.{part_of}
-use Rattle.java_resolver.specs.TypeKinds.{are_lock_parts}
-use Rattle.java_resolver.proofs.kinds.are_lock_parts.Given as goal
+use Rattle.java_resolver_parts.specs.LockTypes.{are_lock_parts}
+use Rattle.java_resolver_parts.proofs.locks.are_lock_parts.Given as goal
 
 -- the names that are left decide
 abbrev pub invariant-loop-part : goal.invariant-loop-part

@@ -1,11 +1,11 @@
 -- Names of a type before the last.
-use Rattle.std.proofs.Common.{◌≡◌, ◌&&◌, Bool, true, false, List, [], ◌∷◌, length, map, refl, ap, sym, ◌∙◌, subst}
+use Rattle.std.proofs.Common.{◌≡◌, ◌&&◌, Bool, true, false, List, [], ◌∷◌, length, map, refl, ap, sym, ◌∙◌}
 use Rattle.std.specs.Prelude.{◌==◌}
 use Rattle.std.proofs.lemmas.Bool.{and_left}
 use Rattle.java_tree.specs.declared.types.TypePart.{TypePart}
 use Rattle.java_tree.specs.Trees.{pack_parts}
 use Rattle.java_tree.specs.View.{part_of}
-use Rattle.java_resolver.specs.TypeKinds.{is_bare, are_lock_parts}
+use Rattle.java_resolver_parts.specs.LockTypes.{is_bare, are_lock_parts}
 
 abbrev pub do_lock : List TypePart → Bool
 do_lock parts = are_lock_parts (pack_parts (map part_of parts))

@@ -4,9 +4,9 @@ use Rattle.std.specs.BTreeMap.{get_by_text, is_at}
 use Rattle.std.specs.Map.{lookup}
 use Rattle.std.proofs.lemmas.Result.{on_ok_weaker}
 use Rattle.std.proofs.lemmas.Map.Text.{btree_map_updates_text}
-use Rattle.java_resolver.specs.Numbers.{Key, key_cmp, key_eq, Named, keyed_at, number_in, or_added, AddsNumber}
-use Rattle.java_resolver.proofs.Adding.{number_added}
-use Rattle.java_resolver.proofs.numbers.add_number.Goals as goal
+use Rattle.java_resolver_parts.specs.Numbers.{Key, key_cmp, key_eq, Named, keyed_at, number_in, or_added, AddsNumber}
+use Rattle.java_resolver_parts.proofs.Adding.{number_added}
+use Rattle.java_resolver_parts.proofs.numbers.add_number.Goals as goal
 
 pub returns-in-Some : goal.returns-in-Some
 returns-in-Some c =

@@ -1,6 +1,6 @@
-use Rattle.std.proofs.Common.{◌≡◌, sym, ◌∙◌}
-use Rattle.java_resolver.proofs.LockParts.{bare-first}
-use Rattle.java_resolver.proofs.kinds.are_lock_parts.Goals as goal
+use Rattle.std.proofs.Common.{sym, ◌∙◌}
+use Rattle.java_resolver_parts.proofs.LockParts.{bare-first}
+use Rattle.java_resolver_parts.proofs.locks.are_lock_parts.Goals as goal
 
 pub loop-part-preserved : goal.loop-part-preserved
 loop-part-preserved c =
