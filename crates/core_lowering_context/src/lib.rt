@@ -32,5 +32,5 @@ pub use locks::note_lock;
 pub use making::Making;
 pub use numbers::number_of;
 pub use sources::{Body, Source};
-pub use targets::{LoopExits, Sent};
+pub use targets::{Kept, LoopExits, Sent};
 pub use value_kind::{ValueKind, common_kind};

@@ -15,27 +15,25 @@ use Rattle.core_lowering_methods.specs.declared.rounds.Round.{Round}
 use Rattle.core_lowering_methods.specs.StatementSteps.{Becomes, closed_from, entered_for, turned, broken_at, while_loop}
 use Rattle.core_lowering_methods.specs.StatementSteps.{do_loop, for_loop, each_loop, next_element, elements}
 use Rattle.core_lowering_methods.proofs.Becoming.{becomes, grown, grown-behind}
-use Rattle.core_lowering_context.proofs.Pieces.{two_pieces, before_seam, behind_seam}
+use Rattle.core_lowering_context.proofs.Pieces.{two_pieces, behind_seam}
 use Rattle.core_lowering_methods.proofs.StatementCode.{broken-there, block-made}
 use Rattle.core_lowering_methods.proofs.StatementContexts.{inside-for, inside-each}
 
 -- ---- the body of a loop
 
-pub body-made : (a inside : Context) (s : Stmt) (old second body : Code) (at : ℕ) → inside ≡ in_loop a →
-    at ≡ length old → second ≡ old ++ stmt inside s → body ≡ drop at second → body ≡ stmt (in_loop a) s
-body-made a inside s old second body at p here is taken =
-    taken ∙ ap (λ (n : ℕ). drop n second) here ∙ behind_seam old second (stmt inside s) is
+pub body-made : (a inside : Context) (s : Stmt) (old second : Code) (at : ℕ) → inside ≡ in_loop a →
+    at ≡ length old → second ≡ old ++ stmt inside s → drop at second ≡ stmt (in_loop a) s
+body-made a inside s old second at p here is =
+    ap (λ (n : ℕ). drop n second) here ∙ behind_seam old second (stmt inside s) is
     ∙ ap (λ (x : Context). stmt x s) p
 
-pub round-made : (a inside : Context) (s : Stmt) (old second third new body : Code) (at n : ℕ) → inside ≡ in_loop a →
-    at ≡ length old → second ≡ old ++ stmt inside s → third ≡ take at second → body ≡ drop at second →
-    n ≡ suc a.exits → new ≡ third ++ within n body → new ≡ old ++ one_round a (stmt (in_loop a) s)
-round-made a inside s old second third new body at n p here is kept taken e made =
-    made
-    ∙ ap (λ (x : Code). x ++ within n body)
-    (kept ∙ ap (λ (k : ℕ). take k second) here ∙ before_seam old second (stmt inside s) is)
-    ∙ ap (λ (k : ℕ). old ++ within k body) e
-    ∙ ap (λ (x : Code). old ++ within (suc a.exits) x) (body-made a inside s old second body at p here is taken)
+pub round-made : (a inside : Context) (s : Stmt) (old second new : Code) (at n : ℕ) → inside ≡ in_loop a →
+    at ≡ length old → second ≡ old ++ stmt inside s → n ≡ suc a.exits →
+    new ≡ take at second ++ within n (drop at second) → new ≡ old ++ one_round a (stmt (in_loop a) s)
+round-made a inside s old second new at n p here is e made =
+    grown (within n) old second new (stmt inside s) at here is (becomes at (within n) second new made)
+    ∙ ap (λ (k : ℕ). old ++ within k (stmt inside s)) e
+    ∙ ap (λ (x : Context). old ++ within (suc a.exits) (stmt x s)) p
 
 -- what is known of a body
 abbrev pub IsRound : Context → Stmt → Round → Type 0

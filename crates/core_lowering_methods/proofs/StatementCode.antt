@@ -69,3 +69,11 @@ pub held-made : (kind : LockKind) (place : Place) (old one second new object bod
 held-made kind place old one second new object body at p here q made =
     grown-behind (held kind place) old one second new object body at p here q
     (becomes at (held kind place) second new made)
+
+-- and nothing is kept of what comes behind it
+pub locked-made : (kind : LockKind) (place : Place) (old one second third new object body : Code) (at : ℕ) →
+    one ≡ old ++ object → at ≡ length one → second ≡ one ++ body →
+    third ≡ take at second ++ held kind place (drop at second) → new ≡ third →
+    new ≡ old ++ (object ++ held kind place body)
+locked-made kind place old one second third new object body at p here q made kept =
+    kept ∙ held-made kind place old one second third object body at p here q made

@@ -113,3 +113,9 @@ pub finally-code : (a : Context) (old new : Code) (t : TryTree) (finally : Vec S
     new ≡ old ++ stmt a (try_of t)
 finally-code a old new t finally ss is same made =
     made ∙ with-finally (λ (s : Stmt). old ++ stmt a s) t finally ss is same
+
+-- behind it nothing is kept of its clauses
+pub try-code : (a : Context) (old first new : Code) (t : TryTree) → (out-TryTree t).finally ≡ None →
+    first ≡ old ++ first_part a (resources_in t) (body_of t) → new ≡ first → new ≡ old ++ stmt a (try_of t)
+try-code a old first new t is made kept =
+    kept ∙ made ∙ without-finally (λ (s : Stmt). old ++ stmt a s) t is

@@ -13,7 +13,9 @@ ghost use Rattle.core_lowering_context.specs.Drafts.{code_of};
 ghost use Rattle.core_lowering_methods.specs.StatementSteps.{elements};
 
 use crate::blocks::end_block;
-use crate::rounds::{Round, begin_for, end_do, end_for, end_for_each, end_while, lower_next};
+use crate::rounds::{
+    Round, begin_for, end_do, end_for, end_for_each, end_round, end_while, lower_next,
+};
 use crate::statements::lower_statement;
 use core_lowering_context::{Context, Making};
 use core_lowering_expressions::lower_run;
@@ -39,13 +41,7 @@ fn lower_round(
     let exits = context.enter_loop(alloc)?;
     let at = draft.len();
     lower_statement(alloc, context, s, draft)?;
-    let body = draft.taken(alloc, at)?;
-    let has_break = body.ends().has(exits.break_to);
-    draft.put_within(alloc, exits.continue_to, body)?;
-    Ok(Round {
-        break_to: exits.break_to,
-        has_break,
-    })
+    end_round(alloc, exits, at, draft)
 }
 
 #[cycle(statements)]

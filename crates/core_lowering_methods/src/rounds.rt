@@ -1,5 +1,8 @@
 //! What stands around the bodies of loops, and what is known of them (JLS 14.12 to 14.14).
-ghost use Rattle.std.specs.Prelude.{◌≡◌, ◌++◌, OnOk, map, option_map};
+ghost use Rattle.std.specs.Prelude.{◌≡◌, ◌++◌, OnOk, IfOk, drop, map, option_map, take};
+ghost use Rattle.core_lowering_drafts.specs.Drafts.{has};
+ghost use Rattle.core_lowering_drafts.specs.Drafts as path;
+ghost use Rattle.core_lowering_rules.specs.Context.{ends_of, within};
 ghost use Rattle.core_lowering_rules.specs.Trees.{pack_exprs};
 ghost use Rattle.core_lowering_rules.specs.TreesOf.{expr_of, condition_of, start_of};
 ghost use Rattle.core_lowering_rules.specs.Scopes.{started};
@@ -12,7 +15,7 @@ ghost use Rattle.core_lowering_methods.specs.StatementSteps.{each_loop};
 
 use crate::locals::lower_start;
 use core_code::Op;
-use core_lowering_context::{Context, Making};
+use core_lowering_context::{Context, LoopExits, Making};
 use core_lowering_drafts::Exit;
 use core_lowering_expressions::{lower_run, lower_run_all, set};
 use java_tree::{Apart, Expression, StartTree};
@@ -111,6 +114,28 @@ pub fn lower_next(context: &Context, v: VarId, draft: &mut Making) -> Result<(),
 {
     context.op(draft, Op::Outside(0))?;
     set(context, v, draft)
+}
+
+/// The end of the body of a loop, which is there from this part on: a `continue` leads there.
+pub fn end_round(
+    alloc: Global,
+    exits: LoopExits,
+    at: usize,
+    draft: &mut Making,
+) -> Result<Round, Memory>
+    ensures code { OnOk result (code_of draft.new ≡ take at (code_of draft.old)
+        ++ within exits.continue_to.0 (drop at (code_of draft.old))) }
+    ensures exit { IfOk result (λ round. round.break_to.0 ≡ exits.break_to.0) }
+    ensures has_break { IfOk result (λ round. round.has_break
+        ≡ has (ends_of (drop at (code_of draft.old))) (path.Exit exits.break_to.0)) }
+{
+    let body = draft.taken(alloc, at)?;
+    let has_break = body.ends().has(exits.break_to);
+    draft.put_within(alloc, exits.continue_to, body)?;
+    Ok(Round {
+        break_to: exits.break_to,
+        has_break,
+    })
 }
 
 /// Nothing comes behind a loop that is left by a `break` alone.

@@ -1,5 +1,5 @@
 //! The code of `switch` (JLS 14.11).
-ghost use Rattle.std.specs.Prelude.{◌≡◌, ◌++◌, None, IfOk, OnOk, map};
+ghost use Rattle.std.specs.Prelude.{◌≡◌, ◌++◌, None, IfOk, OnOk, drop, map, take};
 ghost use Rattle.core_lowering_rules.specs.Trees.{Switch, pack_groups};
 ghost use Rattle.core_lowering_rules.specs.TreesOf.{expr_of, group_of};
 ghost use Rattle.core_lowering_rules.specs.Context.{within};
@@ -20,6 +20,21 @@ use java_tree::{Expression, GroupTree};
 use racer_base::Memory;
 use std::alloc::Global;
 
+/// The end of a group that is there from this part on: it is taken from the draft, and its variables stay in scope in
+/// the next one (JLS 6.3).
+fn end_group(
+    alloc: Global,
+    context: &mut Context,
+    at: usize,
+    draft: &mut Making,
+) -> Result<Draft, Memory>
+    ensures context { context.new ≡ context.old }
+    ensures kept { OnOk result (code_of draft.new ≡ take at (code_of draft.old)) }
+    ensures taken { IfOk result (λ made. made ≡ drop at (code_of draft.old)) }
+{
+    draft.taken(alloc, at)
+}
+
 /// The statements of a group, which are taken from the draft.
 #[cycle(statements)]
 fn lower_group(
@@ -34,7 +49,7 @@ fn lower_group(
 {
     let at = draft.len();
     lower_statements(alloc, context, group.body.as_slice(), draft)?;
-    draft.taken(alloc, at)
+    end_group(alloc, context, at, draft)
 }
 
 /// What of groups may be entered.

@@ -47,6 +47,9 @@ loops::lower_round-returns-clause-context = loops.loops::lower_round-returns-cla
 pub loops::lower_round-returns-clause-code : goal.loops::lower_round-returns-clause-code
 loops::lower_round-returns-clause-code = loops.loops::lower_round-returns-clause-code
 
+pub loops::lower_round-returns-clause-exit : goal.loops::lower_round-returns-clause-exit
+loops::lower_round-returns-clause-exit = loops.loops::lower_round-returns-clause-exit
+
 pub loops::lower_round-returns-clause-has_break : goal.loops::lower_round-returns-clause-has_break
 loops::lower_round-returns-clause-has_break = loops.loops::lower_round-returns-clause-has_break
 
@@ -155,6 +158,11 @@ pub tries::lower_try-returns-in_ok-lower_first-in-None-clause-context :
 tries::lower_try-returns-in_ok-lower_first-in-None-clause-context =
     tries.tries::lower_try-returns-in_ok-lower_first-in-None-clause-context
 
+pub tries::lower_try-returns-in_ok-lower_first-in-None-clause-code :
+    goal.tries::lower_try-returns-in_ok-lower_first-in-None-clause-code
+tries::lower_try-returns-in_ok-lower_first-in-None-clause-code =
+    tries.tries::lower_try-returns-in_ok-lower_first-in-None-clause-code
+
 pub tries::lower_locked-lower_block-requires : goal.tries::lower_locked-lower_block-requires
 tries::lower_locked-lower_block-requires = tries.tries::lower_locked-lower_block-requires
 
@@ -167,8 +175,11 @@ tries::lower_locked-returns-clause-code = tries.tries::lower_locked-returns-clau
 pub tries::pass_clauses-loop-clause-preserved : goal.tries::pass_clauses-loop-clause-preserved
 tries::pass_clauses-loop-clause-preserved = tries.tries::pass_clauses-loop-clause-preserved
 
-pub tries::pass_clauses-returns : goal.tries::pass_clauses-returns
-tries::pass_clauses-returns = tries.tries::pass_clauses-returns
+pub tries::pass_clauses-returns-clause-context : goal.tries::pass_clauses-returns-clause-context
+tries::pass_clauses-returns-clause-context = tries.tries::pass_clauses-returns-clause-context
 
-pub tries::pass_clause-returns : goal.tries::pass_clause-returns
-tries::pass_clause-returns = tries.tries::pass_clause-returns
+pub tries::pass_clause-returns-clause-kept : goal.tries::pass_clause-returns-clause-kept
+tries::pass_clause-returns-clause-kept = tries.tries::pass_clause-returns-clause-kept
+
+pub tries::pass_clause-returns-clause-context : goal.tries::pass_clause-returns-clause-context
+tries::pass_clause-returns-clause-context = tries.tries::pass_clause-returns-clause-context

@@ -39,8 +39,12 @@ invariant-switches::lower_groups-loop-group l =
 -- the clauses that are left
 abbrev pub invariant-tries::pass_clauses-loop-clause : goal.invariant-tries::pass_clauses-loop-clause
 invariant-tries::pass_clauses-loop-clause l =
-    caught l.context (pack_catches (map catch_of (drop l.clause-index l.clauses)))
-    ≡ caught l.initial.context (pack_catches (map catch_of l.clauses))
+    let left = pack_catches (map catch_of (drop l.clause-index l.clauses)) in
+    let all = pack_catches (map catch_of l.clauses) in
+    record {
+      context : caught l.context left ≡ caught l.initial.context all;
+      kept : code_of l.draft ≡ code_of l.initial.draft;
+    }
 
 -- the deepest part comes first, and of functions on one part the outer one
 abbrev pub decreases-statements::lower_statement : goal.decreases-statements::lower_statement

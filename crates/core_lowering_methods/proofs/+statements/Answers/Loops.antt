@@ -1,6 +1,6 @@
 -- Loops and labels.
-use Rattle.std.proofs.Common.{map, option_map, ap, ◌∙◌}
-use Rattle.std.proofs.lemmas.Result.{on_ok_weaker}
+use Rattle.std.proofs.Common.{◌≡◌, drop, map, option_map, ap, ◌∙◌}
+use Rattle.std.proofs.lemmas.Result.{on_ok_weaker, IfOk-weaker}
 use Rattle.java_tree.specs.View.{ty_of}
 use Rattle.core_lowering_drafts.specs.Drafts.{has, Exit}
 use Rattle.core_lowering_rules.specs.Trees.{pack_exprs}
@@ -19,27 +19,40 @@ use Rattle.core_lowering_methods.proofs.+statements.Goals as goal
 pub loops::lower_round-returns-clause-context : goal.loops::lower_round-returns-clause-context
 loops::lower_round-returns-clause-context t c =
     let s = stmt_of c.args.s.now in
-    c.in_ok-lower_statement.ensures.context ∙ ap (λ (x : Context). after x s) c.in_ok-exits.ensures.context
+    on_ok_weaker c.end_round.result
+    (λ made. c.in_ok-lower_statement.ensures.context ∙ ap (λ (x : Context). after x s) c.in_ok-exits.ensures.context)
+    c.end_round.ensures.code
 
 pub loops::lower_round-returns-clause-code : goal.loops::lower_round-returns-clause-code
 loops::lower_round-returns-clause-code t c =
-    round-made c.args.context.now c.enter_loop.new.self (stmt_of c.args.s.now) (code_of c.args.draft.now)
-    (code_of c.lower_statement.new.draft) (code_of c.taken.new.self) (code_of c.put_within.new.self)
-    c.in_ok-body.body c.len-at.result c.in_ok-exits.exits.continue_to.0 c.in_ok-exits.ensures.context
-    c.len-at.ensures c.in_ok-lower_statement.ensures.code c.in_ok-body.ensures.kept c.in_ok-body.ensures.taken
-    c.in_ok-exits.ensures.continue_to c.in_ok-put_within.ensures
+    on_ok_weaker c.end_round.result
+    (round-made c.args.context.now c.enter_loop.new.self (stmt_of c.args.s.now) (code_of c.args.draft.now)
+    (code_of c.lower_statement.new.draft) (code_of c.end_round.new.draft) c.len-at.result
+    c.in_ok-exits.exits.continue_to.0 c.in_ok-exits.ensures.context c.len-at.ensures
+    c.in_ok-lower_statement.ensures.code c.in_ok-exits.ensures.continue_to)
+    c.end_round.ensures.code
+
+pub loops::lower_round-returns-clause-exit : goal.loops::lower_round-returns-clause-exit
+loops::lower_round-returns-clause-exit t c =
+    IfOk-weaker c.end_round.result (λ round. round.break_to.0 ≡ c.in_ok-exits.exits.break_to.0)
+    (λ round. round.break_to.0 ≡ c.args.context.now.exits)
+    (λ round is. is ∙ c.in_ok-exits.ensures.break_to) c.end_round.ensures.exit
 
 pub loops::lower_round-returns-clause-has_break : goal.loops::lower_round-returns-clause-has_break
 loops::lower_round-returns-clause-has_break t c =
     let a = c.args.context.now in
+    let s = stmt_of c.args.s.now in
+    let second = code_of c.lower_statement.new.draft in
     let exit = c.in_ok-exits.exits.break_to.0 in
-    c.has-has_break.ensures
-    ∙ c.ends.ensures (Exit exit)
+    IfOk-weaker c.end_round.result
+    (λ round. round.has_break ≡ has (ends_of (drop c.len-at.result second)) (Exit exit))
+    (λ round. round.has_break ≡ has (ends_of (stmt (in_loop a) s)) (Exit a.exits))
+    (λ round is. is
     ∙ ap (λ (x : Code). has (ends_of x) (Exit exit))
-    (body-made a c.enter_loop.new.self (stmt_of c.args.s.now) (code_of c.args.draft.now)
-    (code_of c.lower_statement.new.draft) c.in_ok-body.body c.len-at.result c.in_ok-exits.ensures.context
-    c.len-at.ensures c.in_ok-lower_statement.ensures.code c.in_ok-body.ensures.taken)
-    ∙ ap (λ n. has (ends_of (stmt (in_loop a) (stmt_of c.args.s.now))) (Exit n)) c.in_ok-exits.ensures.break_to
+    (body-made a c.enter_loop.new.self s (code_of c.args.draft.now) second c.len-at.result
+    c.in_ok-exits.ensures.context c.len-at.ensures c.in_ok-lower_statement.ensures.code)
+    ∙ ap (λ n. has (ends_of (stmt (in_loop a) s)) (Exit n)) c.in_ok-exits.ensures.break_to)
+    c.end_round.ensures.has_break
 
 -- ---- loops
 

@@ -23,31 +23,32 @@ use Rattle.core_lowering_methods.proofs.+statements.Goals as goal
 pub switches::lower_group-returns-clause-context : goal.switches::lower_group-returns-clause-context
 switches::lower_group-returns-clause-context t c =
     let a = c.args.context.now in
-    on_ok_weaker c.taken.result
-    (λ kept. c.in_ok-lower_statements.ensures.context
+    on_ok_weaker c.end_group.result
+    (λ kept. c.end_group.ensures.context
+    ∙ c.in_ok-lower_statements.ensures.context
     ∙ ap (λ (ss : List Statement). after_all a (pack_stmts (map stmt_of ss))) c.as_slice.ensures.value)
-    c.taken.ensures.kept
+    c.end_group.ensures.kept
 
 pub switches::lower_group-returns-clause-kept : goal.switches::lower_group-returns-clause-kept
 switches::lower_group-returns-clause-kept t c =
     let old = code_of c.args.draft.now in
-    on_ok_weaker c.taken.result
-    (taken-back old (code_of c.lower_statements.new.draft) (code_of c.taken.new.self)
+    on_ok_weaker c.end_group.result
+    (taken-back old (code_of c.lower_statements.new.draft) (code_of c.end_group.new.draft)
     (stmts c.args.context.now (pack_stmts (map stmt_of c.as_slice.result.now))) c.len-at.result c.len-at.ensures
     c.in_ok-lower_statements.ensures.code)
-    c.taken.ensures.kept
+    c.end_group.ensures.kept
 
 pub switches::lower_group-returns-clause-made : goal.switches::lower_group-returns-clause-made
 switches::lower_group-returns-clause-made t c =
     let a = c.args.context.now in
     let old = code_of c.args.draft.now in
     let second = code_of c.lower_statements.new.draft in
-    IfOk-weaker c.taken.result (λ draft. draft ≡ drop c.len-at.result second)
+    IfOk-weaker c.end_group.result (λ draft. draft ≡ drop c.len-at.result second)
     (λ draft. draft ≡ stmts a (statements_of c.args.group.now))
     (λ draft taken. taken-made old second draft (stmts a (pack_stmts (map stmt_of c.as_slice.result.now)))
     c.len-at.result c.len-at.ensures c.in_ok-lower_statements.ensures.code taken
     ∙ ap (λ (ss : List Statement). stmts a (pack_stmts (map stmt_of ss))) c.as_slice.ensures.value)
-    c.taken.ensures.taken
+    c.end_group.ensures.taken
 
 -- ---- groups, one after another
 

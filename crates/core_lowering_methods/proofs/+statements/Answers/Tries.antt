@@ -1,5 +1,5 @@
 -- `try`, and catch clauses.
-use Rattle.std.proofs.Common.{List, ◌∷◌, ◌++◌, ◌+◌, map, drop, sym, ap, ◌∙◌, rules}
+use Rattle.std.proofs.Common.{List, ◌∷◌, ◌++◌, ◌+◌, length, map, drop, sym, ap, ◌∙◌, rules}
 use Rattle.std.proofs.lemmas.List.{at_drop_more, at_drop_all}
 use Rattle.std.proofs.lemmas.Result.{on_ok_weaker, IfOk-from_err}
 use Rattle.racer_base.specs.declared.ids.Kind.TheVariants as types
@@ -12,20 +12,21 @@ use Rattle.core_code.specs.declared.code.LockKind.TheVariants.{Explicit}
 use Rattle.core_lowering_rules.specs.Trees.{pack_stmts, pack_catches}
 use Rattle.core_lowering_rules.specs.Trees as tree
 use Rattle.core_lowering_rules.specs.TreesOf.{expr_of, stmt_of, catch_of}
-use Rattle.core_lowering_rules.specs.Context.{Context}
+use Rattle.core_lowering_rules.specs.Context.{Context, Code}
 use Rattle.core_lowering_rules.specs.Expressions.{code}
 use Rattle.core_lowering_rules.specs.Scopes.{declared, after, after_all, caught}
-use Rattle.core_lowering_rules.specs.Statements.{stmt}
+use Rattle.core_lowering_rules.specs.Statements.{stmt, stmts}
 use Rattle.core_lowering_locks.specs.Seen.{body_of, clauses_of, resources_in}
 use Rattle.core_lowering_locks.proofs.JoinedStatements.{catch-form}
 use Rattle.core_lowering_context.specs.Drafts.{code_of}
 use Rattle.core_lowering_context.specs.Restored.{restored}
 use Rattle.core_lowering_methods.specs.StatementSteps.{behind_first, first_part, passed_by}
-use Rattle.core_lowering_methods.proofs.StatementCode.{held-made}
+use Rattle.core_lowering_methods.proofs.StatementCode.{locked-made}
+use Rattle.core_lowering_methods.proofs.SwitchCode.{taken-back}
 use Rattle.core_lowering_methods.proofs.StatementContexts.{first-left, clause-passed}
 use Rattle.core_lowering_methods.proofs.StatementContexts.{locked-left, try-left}
 use Rattle.core_lowering_methods.proofs.TryCode.{first-made, guarded-made, cleared-there, finally-there, with-finally}
-use Rattle.core_lowering_methods.proofs.TryCode.{without-finally, finally-code}
+use Rattle.core_lowering_methods.proofs.TryCode.{without-finally, finally-code, try-code}
 use Rattle.core_lowering_methods.proofs.+statements.Goals as goal
 
 -- ---- the resources and the block
@@ -78,7 +79,7 @@ tries::lower_finally-returns-clause-context t c =
     (cleared-there a c.enter_guard.new.self first left c.pass_clauses.new.context c.note_unlocks.new.context rs ss
     catches finally c.in_ok-exit.exit.0 c.in_ok-exit.ensures.context c.in_ok-exit.ensures.exit
     c.in_ok-lower_first.ensures.context c.leave_guard-variable.ensures.context
-    (c.in_ok-pass_clauses.ensures
+    (c.in_ok-pass_clauses.ensures.context
     ∙ ap (λ (cs : List CatchTree). caught left (pack_catches (map catch_of cs))) c.as_slice.ensures.value)
     c.note_unlocks.ensures)
     c.in_ok-lower_block.ensures.context)
@@ -94,6 +95,7 @@ tries::lower_finally-returns-clause-code t c =
     let old = code_of c.args.draft.now in
     let first : Context = c.lower_first.new.context in
     let left : Context = c.leave_guard-variable.new.self in
+    let cleanup = stmt c.note_unlocks.new.context (tree.Block finally) in
     on_ok_weaker c.end_finally.result
     (guarded-made a c.note_unlocks.new.context c.lower_block.new.context rs ss catches finally
     c.leave_guard-variable.result first old (code_of c.lower_first.new.draft) (code_of c.lower_block.new.draft)
@@ -102,14 +104,15 @@ tries::lower_finally-returns-clause-code t c =
     (c.in_ok-lower_first.ensures.context ∙ ap (λ (x : Context). behind_first x rs ss) c.in_ok-exit.ensures.context)
     c.leave_guard-variable.ensures.variable
     (c.in_ok-lower_first.ensures.code ∙ ap (λ (x : Context). old ++ first_part x rs ss) c.in_ok-exit.ensures.context)
-    c.len-behind.ensures
+    (c.len-behind.ensures ∙ ap length c.in_ok-pass_clauses.ensures.kept)
     (cleared-there a c.enter_guard.new.self first left c.pass_clauses.new.context c.note_unlocks.new.context rs ss
     catches finally c.in_ok-exit.exit.0 c.in_ok-exit.ensures.context c.in_ok-exit.ensures.exit
     c.in_ok-lower_first.ensures.context c.leave_guard-variable.ensures.context
-    (c.in_ok-pass_clauses.ensures
+    (c.in_ok-pass_clauses.ensures.context
     ∙ ap (λ (cs : List CatchTree). caught left (pack_catches (map catch_of cs))) c.as_slice.ensures.value)
     c.note_unlocks.ensures)
-    c.in_ok-lower_block.ensures.context c.in_ok-lower_block.ensures.code)
+    c.in_ok-lower_block.ensures.context
+    (c.in_ok-lower_block.ensures.code ∙ ap (λ (x : Code). x ++ cleanup) c.in_ok-pass_clauses.ensures.kept))
     c.end_finally.ensures.code
 
 -- where memory is refused
@@ -163,7 +166,15 @@ tries::lower_try-returns-in_ok-lower_first-in-None-clause-context t c =
     (made ∙ ap (λ (cs : List CatchTree). caught first (pack_catches (map catch_of cs)))
     c.as_slice-in-None.ensures.value)
     ∙ without-finally (after a) tried c.in-None.is)
-    c.pass_clauses.ensures
+    c.pass_clauses.ensures.context
+
+pub tries::lower_try-returns-in_ok-lower_first-in-None-clause-code :
+    goal.tries::lower_try-returns-in_ok-lower_first-in-None-clause-code
+tries::lower_try-returns-in_ok-lower_first-in-None-clause-code t c =
+    on_ok_weaker c.pass_clauses.result
+    (try-code c.args.context.now (code_of c.args.draft.now) (code_of c.lower_first.new.draft)
+    (code_of c.pass_clauses.new.draft) c.args.tried.now c.in-None.is c.in_ok-lower_first-in-None.ensures.code)
+    c.pass_clauses.ensures.kept
 
 -- ---- locked trys, and catch clauses
 
@@ -174,30 +185,30 @@ tries::lower_locked-lower_block-requires t c =
 pub tries::lower_locked-returns-clause-context : goal.tries::lower_locked-returns-clause-context
 tries::lower_locked-returns-clause-context t c =
     let a = c.args.context.now in
-    let noted : Context = c.note_lock.new.context in
+    let noted : Context = c.end_locked.new.context in
     on_ok_weaker c.pass_clauses.result
     (λ made. locked-left a c.lower_block.new.context noted c.pass_clauses.new.context c.args.lock.place
     (expr_of c.args.lock.on.now) (body_of c.args.tried.now) (clauses_of c.args.tried.now)
     (c.in_ok-lower_block.ensures.context
     ∙ ap (λ (xs : List Statement). after a (tree.Block (pack_stmts (map stmt_of xs)))) c.as_slice.ensures.value)
-    c.note_lock.ensures
+    c.in_ok-end_locked.ensures.context
     (made
     ∙ ap (λ (cs : List CatchTree). caught noted (pack_catches (map catch_of cs))) c.as_slice-2.ensures.value))
-    c.pass_clauses.ensures
+    c.pass_clauses.ensures.context
 
 pub tries::lower_locked-returns-clause-code : goal.tries::lower_locked-returns-clause-code
 tries::lower_locked-returns-clause-code t c =
     let a = c.args.context.now in
     let one = code_of c.lower_expression.new.draft in
     on_ok_weaker c.pass_clauses.result
-    (λ made. held-made Explicit c.args.lock.place (code_of c.args.draft.now) one (code_of c.lower_block.new.draft)
-    (code_of c.hold.new.self) (code a (expr_of c.args.lock.on.now)) (stmt a (tree.Block (body_of c.args.tried.now)))
+    (locked-made Explicit c.args.lock.place (code_of c.args.draft.now) one (code_of c.lower_block.new.draft)
+    (code_of c.end_locked.new.draft) (code_of c.pass_clauses.new.draft) (code a (expr_of c.args.lock.on.now)) (stmt a (tree.Block (body_of c.args.tried.now)))
     c.len-body.result c.in_ok-lower_expression.ensures.code c.len-body.ensures
     (c.in_ok-lower_block.ensures.code
     ∙ ap (λ (xs : List Statement). one ++ stmt a (tree.Block (pack_stmts (map stmt_of xs))))
     c.as_slice.ensures.value)
-    c.in_ok-hold.ensures.code)
-    c.pass_clauses.ensures
+    c.in_ok-end_locked.ensures.code)
+    c.pass_clauses.ensures.kept
 
 pub tries::pass_clauses-loop-clause-preserved : goal.tries::pass_clauses-loop-clause-preserved
 tries::pass_clauses-loop-clause-preserved t c =
@@ -206,30 +217,45 @@ tries::pass_clauses-loop-clause-preserved t c =
     let one : CatchTree = c.clause-item.result in
     let rest = drop (i + 1) all in
     let left = pack_catches (map catch_of rest) in
-    ap (λ (x : Context). caught x left) c.in_ok-pass_clause.ensures
-    ∙ ap (λ (w : CatchTree). caught c.loop-clause.context (pack_catches (map catch_of (w ∷ rest)))) c.clause-item.is
-    ∙ sym (at_drop_more (λ (cs : List CatchTree). caught c.loop-clause.context (pack_catches (map catch_of cs))) all i
-    one c.loop-clause-test.true)
-    ∙ c.loop-clause.invariant
+    record {
+      context =
+          ap (λ (x : Context). caught x left) c.in_ok-pass_clause.ensures.context
+          ∙ ap (λ (w : CatchTree). caught c.loop-clause.context (pack_catches (map catch_of (w ∷ rest))))
+          c.clause-item.is
+          ∙ sym (at_drop_more (λ (cs : List CatchTree). caught c.loop-clause.context (pack_catches (map catch_of cs)))
+          all i one c.loop-clause-test.true)
+          ∙ c.loop-clause.invariant.context;
+      kept = c.in_ok-pass_clause.ensures.kept ∙ c.loop-clause.invariant.kept;
+    }
 
-pub tries::pass_clauses-returns : goal.tries::pass_clauses-returns
-tries::pass_clauses-returns t c =
+pub tries::pass_clauses-returns-clause-context : goal.tries::pass_clauses-returns-clause-context
+tries::pass_clauses-returns-clause-context t c =
     sym (at_drop_all (λ (cs : List CatchTree). caught c.loop-clause.context (pack_catches (map catch_of cs)))
     c.args.clauses.now c.loop-clause.clause-index c.loop-clause-test.false)
-    ∙ c.loop-clause.invariant
+    ∙ c.loop-clause.invariant.context
 
-pub tries::pass_clause-returns : goal.tries::pass_clause-returns
-tries::pass_clause-returns t c =
+pub tries::pass_clause-returns-clause-kept : goal.tries::pass_clause-returns-clause-kept
+tries::pass_clause-returns-clause-kept t c =
+    on_ok_weaker c.end_clause.result
+    (taken-back (code_of c.args.draft.now) (code_of c.lower_statements.new.draft) (code_of c.end_clause.new.draft)
+    (stmts c.declare.new.self (pack_stmts (map stmt_of c.as_slice.result.now))) c.len-at.result c.len-at.ensures
+    c.in_ok-lower_statements.ensures.code)
+    c.end_clause.ensures.kept
+
+pub tries::pass_clause-returns-clause-context : goal.tries::pass_clause-returns-clause-context
+tries::pass_clause-returns-clause-context t c =
     let a = c.args.context.now in
     let clause = c.args.clause.now in
     let x = (out-CatchTree clause).parameter.name in
     let ss = pack_stmts (map stmt_of (out-CatchTree clause).body.items) in
     let inside : Context = c.lower_statements.new.context in
-    c.restore.ensures
+    on_ok_weaker c.end_clause.result
+    (λ made. made
     ∙ ap (λ k. restored k inside) c.in_ok-before.ensures
     ∙ clause-passed a inside x ss
     (c.in_ok-lower_statements.ensures.context
     ∙ ap (λ (i : Context). after_all i (pack_stmts (map stmt_of c.as_slice.result.now))) c.in_ok-declare.ensures.context
     ∙ ap (λ (xs : List Statement). after_all (declared a types.Other x) (pack_stmts (map stmt_of xs)))
     c.as_slice.ensures.value)
-    ∙ ap (passed_by a) (sym (catch-form clause))
+    ∙ ap (passed_by a) (sym (catch-form clause)))
+    c.end_clause.ensures.context
