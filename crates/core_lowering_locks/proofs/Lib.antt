@@ -1,4 +1,2 @@
-mod Operators
-pub mod JoinedStatements
-mod Cuts
+pub use Rattle.core_lowering_locks_pairs.proofs.JoinedStatements
 pub mod Unlocking

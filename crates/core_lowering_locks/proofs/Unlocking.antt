@@ -15,9 +15,9 @@ use Rattle.core_lowering_rules.specs.TreesOf.{binary, prefix, assignment, litera
 use Rattle.core_lowering_rules.specs.TreesOf.{access_of, expr_of, stmt_of, try_of, tried}
 use Rattle.core_lowering_rules.specs.Unlocks.{is_unlock, does_unlock, does_unlock_in, do_unlock_any, does_stmt_unlock}
 use Rattle.core_lowering_rules.specs.Unlocks.{do_resources_unlock, do_clauses_unlock}
-use Rattle.core_lowering_locks.specs.Seen.{resources_in, body_of, clauses_of}
-use Rattle.core_lowering_locks.proofs.Operators.{either, literal-in}
-use Rattle.core_lowering_locks.proofs.JoinedStatements.{try-form}
+use Rattle.core_lowering_locks_pairs.specs.Seen.{resources_in, body_of, clauses_of}
+use Rattle.core_lowering_locks_pairs.proofs.Operators.{either, literal-in}
+use Rattle.core_lowering_locks_pairs.proofs.JoinedStatements.{try-form}
 
 -- a call with arguments
 pub arguments_unlock_nothing : (x : Ident) (es : List Expression) → 1 ≤ length es →

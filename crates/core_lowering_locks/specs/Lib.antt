@@ -1,2 +1,2 @@
--- A contract of a public call rests on this: the list of files.
-pub mod Seen
+-- What is seen of locked trys.
+pub use Rattle.core_lowering_locks_pairs.specs.Seen

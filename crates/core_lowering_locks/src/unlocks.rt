@@ -4,10 +4,10 @@ ghost use Rattle.core_lowering_rules.specs.Trees.{pack_exprs, pack_stmts, pack_c
 ghost use Rattle.core_lowering_rules.specs.TreesOf.{expr_of, condition_of, start_of, resources_of, resource_of};
 ghost use Rattle.core_lowering_rules.specs.TreesOf.{label_of, stmt_of, catch_of, group_of, try_of};
 ghost use Rattle.core_lowering_rules.specs.Unlocks as wanted;
-ghost use Rattle.core_lowering_locks.specs.Seen.{item_seen, resources_in, body_of, clauses_of};
+ghost use Rattle.core_lowering_locks_pairs.specs.Seen.{item_seen, resources_in, body_of, clauses_of};
 
-use crate::pairs::{Item, first_item};
 use crate::unlocking_values::{do_any_unlock, do_variables_unlock, does_some_unlock, does_unlock};
+use core_lowering_locks_pairs::{Item, first_item};
 use java_tree::{
     Apart, CatchTree, Expression, GroupTree, LabelTree, ResourceTree, ResourcesTree, StartTree,
     Statement, TryTree,

@@ -1,5 +1,5 @@
 use Rattle.std.proofs.Common.{false}
-use Rattle.core_lowering_locks.proofs.Operators.{binary-arm, prefix-arm}
+use Rattle.core_lowering_locks_pairs.proofs.Operators.{binary-arm, prefix-arm}
 use Rattle.core_lowering_locks.proofs.Unlocking.{in_access, binary_is_no_access, prefix_is_no_access}
 use Rattle.core_lowering_locks.proofs.unlocking_values.+unlocking_values.Goals as goal
 

@@ -3,7 +3,7 @@ use Rattle.java_tree.specs.declared.statements.Statement.{Statement}
 use Rattle.core_lowering_rules.specs.Trees.{pack_stmts}
 use Rattle.core_lowering_rules.specs.TreesOf.{stmt_of}
 use Rattle.core_lowering_rules.specs.Unlocks.{does_stmt_unlock, do_unlock_any}
-use Rattle.core_lowering_locks.specs.Seen.{item_seen}
+use Rattle.core_lowering_locks_pairs.specs.Seen.{item_seen}
 use Rattle.core_lowering_locks.proofs.unlocks.+unlocks.Goals as goal
 
 abbrev any_of : List Statement → Bool

@@ -4,7 +4,7 @@ use Rattle.java_tree.specs.declared.statements.Statement.{size-Statement}
 use Rattle.core_lowering_rules.specs.Trees.{pack_stmts, pack_catches, pack_groups}
 use Rattle.core_lowering_rules.specs.TreesOf.{stmt_of, catch_of, group_of}
 use Rattle.core_lowering_rules.specs.Unlocks as wanted
-use Rattle.core_lowering_locks.specs.Seen.{item_size}
+use Rattle.core_lowering_locks_pairs.specs.Seen.{item_size}
 use Rattle.core_lowering_locks.proofs.unlocks.+unlocks.Given as goal
 
 -- it depends on what is left

@@ -1,7 +1,7 @@
 use Rattle.std.proofs.Common.{false}
 use Rattle.core_lowering_rules.specs.Trees.{is_this}
-use Rattle.core_lowering_locks.proofs.Operators.{binary-arm, prefix-arm, binary_is_no_this, prefix_is_no_this}
-use Rattle.core_lowering_locks.proofs.names.is_this.Goals as goal
+use Rattle.core_lowering_locks_pairs.proofs.Operators.{binary-arm, prefix-arm, binary_is_no_this, prefix_is_no_this}
+use Rattle.core_lowering_locks_pairs.proofs.names.is_this.Goals as goal
 
 pub returns-in-Binary : goal.returns-in-Binary
 returns-in-Binary c =

@@ -4,8 +4,8 @@ ghost use Rattle.java_tree.specs.declared.statements.TryTree.{size-TryTree};
 ghost use Rattle.core_lowering_rules.specs.Trees.{stmt_then, pack_stmts};
 ghost use Rattle.core_lowering_rules.specs.Trees as wanted;
 ghost use Rattle.core_lowering_rules.specs.TreesOf.{stmt_of, try_of};
-ghost use Rattle.core_lowering_locks.specs.Seen.{lock_seen, lock_behind, locked_seen, item_seen, item_size};
-ghost use Rattle.core_lowering_locks.specs.Seen.{has_resource, IsLockedTry, IsLocked, IsCut};
+ghost use Rattle.core_lowering_locks_pairs.specs.Seen.{lock_seen, lock_behind, locked_seen, item_seen, item_size};
+ghost use Rattle.core_lowering_locks_pairs.specs.Seen.{has_resource, IsLockedTry, IsLocked, IsCut};
 
 use crate::calls::{do_unlock, run_call};
 use java_tree::{Expression, Statement, TryTree};

@@ -2,8 +2,8 @@ use Rattle.std.proofs.Common.{List, map, sym, ap, ◌∙◌}
 use Rattle.java_tree.specs.declared.statements.Statement.{Statement}
 use Rattle.core_lowering_rules.specs.Trees.{lock_before, pack_stmts}
 use Rattle.core_lowering_rules.specs.TreesOf.{stmt_of}
-use Rattle.core_lowering_locks.proofs.JoinedStatements.{behind-finally}
-use Rattle.core_lowering_locks.proofs.pairs.lock_of_try.Goals as goal
+use Rattle.core_lowering_locks_pairs.proofs.JoinedStatements.{behind-finally}
+use Rattle.core_lowering_locks_pairs.proofs.pairs.lock_of_try.Goals as goal
 
 pub returns-in-Some : goal.returns-in-Some
 returns-in-Some c =

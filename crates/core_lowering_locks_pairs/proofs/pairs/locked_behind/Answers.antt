@@ -1,5 +1,5 @@
-use Rattle.core_lowering_locks.proofs.Cuts.{cut-locked}
-use Rattle.core_lowering_locks.proofs.pairs.locked_behind.Goals as goal
+use Rattle.core_lowering_locks_pairs.proofs.Cuts.{cut-locked}
+use Rattle.core_lowering_locks_pairs.proofs.pairs.locked_behind.Goals as goal
 
 pub returns : goal.returns
 returns c =

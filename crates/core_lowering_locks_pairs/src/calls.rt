@@ -3,7 +3,7 @@ ghost use Rattle.std.specs.Prelude.{◌≡◌, map, option_map, codes};
 ghost use Rattle.core_lowering_rules.specs.Trees.{CallOn, pack_exprs, pack_stmts};
 ghost use Rattle.core_lowering_rules.specs.Trees as wanted;
 ghost use Rattle.core_lowering_rules.specs.TreesOf.{expr_of, stmt_of};
-ghost use Rattle.core_lowering_locks.specs.Seen.{call_seen};
+ghost use Rattle.core_lowering_locks_pairs.specs.Seen.{call_seen};
 
 use crate::names::is_same_lock;
 use java_tree::{Expression, Ident, Statement};

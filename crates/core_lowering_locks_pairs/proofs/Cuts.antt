@@ -4,9 +4,9 @@ use Rattle.java_tree.specs.declared.statements.Statement.{Statement}
 use Rattle.java_tree.specs.declared.statements.TryTree.{size-TryTree}
 use Rattle.core_lowering_rules.specs.Trees.{Stmt, put_before, pack_stmts}
 use Rattle.core_lowering_rules.specs.TreesOf.{stmt_of, try_of}
-use Rattle.core_lowering_locks.specs.declared.pairs.Locked as pair
-use Rattle.core_lowering_locks.specs.Seen.{lock_seen, lock_behind, locked_seen, IsLocked, IsCut}
-use Rattle.core_lowering_locks.proofs.JoinedStatements.{locked}
+use Rattle.core_lowering_locks_pairs.specs.declared.pairs.Locked as pair
+use Rattle.core_lowering_locks_pairs.specs.Seen.{lock_seen, lock_behind, locked_seen, IsLocked, IsCut}
+use Rattle.core_lowering_locks_pairs.proofs.JoinedStatements.{locked}
 
 cut-two : (first next : Statement) (rest : List Statement) (two : pair.Locked) → IsLocked first next two →
     IsCut (first ∷ next ∷ rest) (locked_seen two) (size-TryTree two.tried.now) rest

@@ -9,11 +9,11 @@ use Rattle.java_tree.specs.declared.statements.TryTree.{TryTree, out-TryTree, si
 use Rattle.core_lowering_rules.specs.Trees.{Expr, Stmt, Stmts, Catches, stmt_then, Locked, Finally, Resource}
 use Rattle.core_lowering_rules.specs.Trees.{lock_before, pack_stmts, pack_catches}
 use Rattle.core_lowering_rules.specs.TreesOf.{expr_of, stmt_of, catch_of, try_of, resources_of}
-use Rattle.core_lowering_locks.specs.declared.calls.PlainCall.{PlainCall}
-use Rattle.core_lowering_locks.specs.declared.pairs.Lock.{Lock}
-use Rattle.core_lowering_locks.specs.declared.pairs.Locked as pair
-use Rattle.core_lowering_locks.specs.declared.pairs.Item.{Item}
-use Rattle.core_lowering_locks.specs.declared.pairs.Item.TheVariants as item
+use Rattle.core_lowering_locks_pairs.specs.declared.calls.PlainCall.{PlainCall}
+use Rattle.core_lowering_locks_pairs.specs.declared.pairs.Lock.{Lock}
+use Rattle.core_lowering_locks_pairs.specs.declared.pairs.Locked as pair
+use Rattle.core_lowering_locks_pairs.specs.declared.pairs.Item.{Item}
+use Rattle.core_lowering_locks_pairs.specs.declared.pairs.Item.TheVariants as item
 
 abbrev pub call_seen : PlainCall → Expr × Ident
 call_seen call = (expr_of call.on.now, call.name.now)

@@ -1,7 +1,7 @@
 use Rattle.std.proofs.Common.{None}
 use Rattle.core_lowering_rules.specs.Trees.{simple_name}
-use Rattle.core_lowering_locks.proofs.Operators.{binary-arm, prefix-arm, binary_is_no_name, prefix_is_no_name}
-use Rattle.core_lowering_locks.proofs.names.simple_name.Goals as goal
+use Rattle.core_lowering_locks_pairs.proofs.Operators.{binary-arm, prefix-arm, binary_is_no_name, prefix_is_no_name}
+use Rattle.core_lowering_locks_pairs.proofs.names.simple_name.Goals as goal
 
 pub returns-in-Binary : goal.returns-in-Binary
 returns-in-Binary c =
