@@ -4,7 +4,7 @@ ghost use Rattle.core_lowering_rules.specs.TreesOf.{expr_of};
 ghost use Rattle.core_lowering_rules.specs.Locks as wanted;
 
 use crate::context::Context;
-use core_lowering_locks::{own_name, simple_name};
+use core_lowering_locks_pairs::{own_name, simple_name};
 use java_resolver::Meaning;
 use java_tree::{Expression, Ident};
 use racer_base::FieldId;

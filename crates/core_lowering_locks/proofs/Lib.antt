@@ -1,2 +1,1 @@
-pub use Rattle.core_lowering_locks_pairs.proofs.JoinedStatements
 pub mod Unlocking

@@ -10,8 +10,8 @@ use Rattle.core_lowering_rules.specs.Context.{Context, Code, guarded}
 use Rattle.core_lowering_rules.specs.Scopes.{back_in, with_resources, in_guard, unlocked_in, after}
 use Rattle.core_lowering_rules.specs.Scopes.{after_all, after_last, caught, returned_variable}
 use Rattle.core_lowering_rules.specs.Statements.{closed, begun_resources, stmt, stmts, last_of}
-use Rattle.core_lowering_locks.specs.Seen.{body_of, clauses_of, resources_in}
-use Rattle.core_lowering_locks.proofs.JoinedStatements.{try-form}
+use Rattle.core_lowering_locks_pairs.specs.Seen.{body_of, clauses_of, resources_in}
+use Rattle.core_lowering_locks_pairs.proofs.JoinedStatements.{try-form}
 use Rattle.core_lowering_context.specs.Restored.{left_guard}
 use Rattle.core_lowering_methods.specs.StatementSteps.{Becomes, BothBecome, closed_from, behind_first, first_part}
 use Rattle.core_lowering_methods.specs.StatementSteps.{guarded_by}

@@ -5,7 +5,7 @@ ghost use Rattle.core_lowering_rules.specs.TreesOf.{expr_of, stmt_of};
 ghost use Rattle.core_lowering_rules.specs.Context.{choice};
 ghost use Rattle.core_lowering_rules.specs.Scopes.{after, after_all};
 ghost use Rattle.core_lowering_rules.specs.Statements.{run, stmt, stmts};
-ghost use Rattle.core_lowering_locks.specs.Seen.{item_seen};
+ghost use Rattle.core_lowering_locks_pairs.specs.Seen.{item_seen};
 ghost use Rattle.core_lowering_context.specs.Drafts.{code_of};
 
 use crate::blocks::end_block;
@@ -17,7 +17,7 @@ use crate::tries::{lower_locked, lower_try};
 use core_code::{LockKind, Op};
 use core_lowering_context::{Context, Making, lower_break, lower_continue};
 use core_lowering_expressions::{lower_expression, lower_run};
-use core_lowering_locks::{Item, first_item};
+use core_lowering_locks_pairs::{Item, first_item};
 use java_tree::{Expression, Statement};
 use racer_base::{Memory, Place};
 use std::alloc::Global;

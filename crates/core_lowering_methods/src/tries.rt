@@ -7,7 +7,7 @@ ghost use Rattle.core_lowering_rules.specs.Trees.{Finally, pack_stmts, pack_catc
 ghost use Rattle.core_lowering_rules.specs.TreesOf.{stmt_of, catch_of, try_of};
 ghost use Rattle.core_lowering_rules.specs.Scopes.{after, caught};
 ghost use Rattle.core_lowering_rules.specs.Statements.{stmt};
-ghost use Rattle.core_lowering_locks.specs.Seen.{lock_seen, under, body_of, clauses_of, resources_in};
+ghost use Rattle.core_lowering_locks_pairs.specs.Seen.{lock_seen, under, body_of, clauses_of, resources_in};
 ghost use Rattle.core_lowering_context.specs.Drafts.{code_of};
 ghost use Rattle.core_lowering_context.specs.Restored.{restored};
 ghost use Rattle.core_lowering_methods.specs.StatementSteps.{behind_first, first_part, passed_by};
@@ -18,7 +18,7 @@ use crate::statements::{lower_block, lower_statements};
 use core_code::LockKind;
 use core_lowering_context::{Context, Kept, Making, note_lock};
 use core_lowering_expressions::lower_expression;
-use core_lowering_locks::Lock;
+use core_lowering_locks_pairs::Lock;
 use java_tree::{CatchTree, Statement, TryTree};
 use racer_base::{Kind, Memory};
 use std::alloc::Global;

@@ -6,7 +6,7 @@ use Rattle.core_lowering_rules.specs.Trees.{pack_stmts, pack_catches, pack_group
 use Rattle.core_lowering_rules.specs.TreesOf.{stmt_of, catch_of, group_of}
 use Rattle.core_lowering_rules.specs.Scopes.{after_all, after_groups, caught}
 use Rattle.core_lowering_rules.specs.Statements.{stmts, options}
-use Rattle.core_lowering_locks.specs.Seen.{item_size}
+use Rattle.core_lowering_locks_pairs.specs.Seen.{item_size}
 use Rattle.core_lowering_context.specs.Drafts.{code_of}
 use Rattle.core_lowering_methods.specs.StatementSteps.{options_with}
 use Rattle.core_lowering_methods.proofs.+statements.Given as goal

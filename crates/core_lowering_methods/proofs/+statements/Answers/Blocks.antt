@@ -10,7 +10,7 @@ use Rattle.core_lowering_rules.specs.Context.{Context, Code}
 use Rattle.core_lowering_rules.specs.Expressions.{code}
 use Rattle.core_lowering_rules.specs.Scopes.{after, after_all}
 use Rattle.core_lowering_rules.specs.Statements.{run, stmt, stmts}
-use Rattle.core_lowering_locks.specs.Seen.{item_seen}
+use Rattle.core_lowering_locks_pairs.specs.Seen.{item_seen}
 use Rattle.core_lowering_context.specs.Drafts.{code_of}
 use Rattle.core_lowering_methods.proofs.Choices.{choice-made, half-made}
 use Rattle.core_lowering_methods.proofs.Inside.{inside-after_all}

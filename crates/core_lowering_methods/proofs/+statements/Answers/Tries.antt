@@ -16,8 +16,8 @@ use Rattle.core_lowering_rules.specs.Context.{Context, Code}
 use Rattle.core_lowering_rules.specs.Expressions.{code}
 use Rattle.core_lowering_rules.specs.Scopes.{declared, after, after_all, caught}
 use Rattle.core_lowering_rules.specs.Statements.{stmt, stmts}
-use Rattle.core_lowering_locks.specs.Seen.{body_of, clauses_of, resources_in}
-use Rattle.core_lowering_locks.proofs.JoinedStatements.{catch-form}
+use Rattle.core_lowering_locks_pairs.specs.Seen.{body_of, clauses_of, resources_in}
+use Rattle.core_lowering_locks_pairs.proofs.JoinedStatements.{catch-form}
 use Rattle.core_lowering_context.specs.Drafts.{code_of}
 use Rattle.core_lowering_context.specs.Restored.{restored}
 use Rattle.core_lowering_methods.specs.StatementSteps.{behind_first, first_part, passed_by}
