@@ -12,3 +12,4 @@ pub mod SameMarks
 pub mod SignatureSteps
 pub mod PassedOn
 pub mod ParameterParts
+pub mod SeenOptions

@@ -8,8 +8,8 @@ use Rattle.java_parser_grammar.specs.ExpressionReading.{Reading}
 use Rattle.java_parser_grammar.specs.Taking.{◌>>=◌, after_sign, after_keyword}
 use Rattle.java_parser_grammar.specs.Readers.{Readers}
 use Rattle.java_parser_grammar.specs.StatementReading.{body_at, condition_at, groups_at, pieces_at, row_at}
-use Rattle.java_parser_parts.specs.Parts.{do_end_at, labelled_with, switch_front_at}
-use Rattle.java_parser_methods.specs.RowReading.{labelled_at}
+use Rattle.java_parser_parts.specs.Parts.{switch_front_at}
+use Rattle.java_parser_methods.specs.RowReading.{do_end_at, labelled_at, labelled_with}
 
 module _ (readers : Readers) (read : Reading Stmt) (block : Reading Stmts) (n : ℕ) where
   -- ---- a `do` behind its body

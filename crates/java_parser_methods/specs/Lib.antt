@@ -1,5 +1,6 @@
 pub mod HeadReading
 pub mod RowReading
+pub mod TryView
 pub mod HeadView
 pub mod AwaitedBrackets
 pub mod ModifierReading

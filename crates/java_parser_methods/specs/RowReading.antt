@@ -1,18 +1,35 @@
 -- No public contract rests on this: reading parts of statements that begin with a keyword of their own, by themselves.
 use Rattle.std.specs.Prelude.{ℕ, suc, Bool, true, false, List, [], ◌∷◌, ◌++◌, length, Option, Some, None, codes}
-use Rattle.std.specs.Prelude.{if◌then◌else◌}
+use Rattle.std.specs.Prelude.{if◌then◌else◌, ◌||◌, is_some, option_map}
 use Rattle.java_tree.specs.declared.words.Spelled.{Spelled}
-use Rattle.java_tree.specs.Formed.{has_some}
-use Rattle.java_tree.specs.Rows.{catch_row}
+use Rattle.java_tree.specs.Formed.{has_some, is_body}
+use Rattle.java_tree.specs.Rows.{Do, Try, catch_row}
 use Rattle.java_tree.specs.Trees.{Ty, Resource, Resources, Stmt, Stmts, pack_stmts, Labelled, Pieces, Several, no_row}
 use Rattle.java_tree.specs.Trees.{row_then, Groups, group_then}
-use Rattle.java_tree.specs.View.{Group}
+use Rattle.java_tree.specs.View.{Finally, Group}
 use Rattle.java_parser_grammar.specs.ExpressionReading.{Reading}
 use Rattle.java_parser_grammar.specs.Taking.{◌>>=◌, match_option, after_sign, after_keyword}
 use Rattle.java_parser_grammar.specs.Readers.{Readers}
 use Rattle.java_parser_grammar.specs.StatementReading.{body_at, labels_at, group_stmts_at, maybe_resources_at}
 use Rattle.java_parser_grammar.specs.StatementReading.{named_at, bars_at, again_at, pieces_at}
-use Rattle.java_parser_parts.specs.Parts.{try_with}
+use Rattle.java_parser_parts.specs.Parts.{has_row, last_condition_at}
+
+-- this statement, and the tokens behind it
+abbrev pub as_made : Stmt → Reading Stmt
+as_made s ts = Some (s, ts)
+
+-- a statement behind this name and its `:`, which is no declaration
+abbrev pub labelled_with : (name : List ℕ) → Stmt → Reading Stmt
+labelled_with x s ts = if is_body s then Some (Labelled x s, ts) else None
+
+-- a `try` of these parts, of which one that may be left out stands
+abbrev pub try_with : Option Resources → Stmts → Several → Option Stmts → Reading Stmt
+try_with resources ss clauses last ts =
+    if is_some resources || (has_row clauses || is_some last) then Some (
+      Try resources ss clauses (option_map Finally
+          last),
+      ts,
+    ) else None
 
 -- these rows, and then more
 abbrev pub rows_onto : List Pieces → Several → Several
@@ -55,6 +72,12 @@ resources_end front read = do
   Some (the_resources (front ++ others.0.0) others.0.1, others.1)
 
 module _ (readers : Readers) where
+  -- the `do` of this body, from behind it on
+  abbrev pub do_end_at : ℕ → Stmt → Reading Stmt
+  do_end_at n s ts = do
+    e ← last_condition_at readers n ts
+    Some (Do s e.0, e.1)
+
   -- a statement behind this name and its `:`
   abbrev pub labelled_at : Reading Stmt → (name : List ℕ) → Reading Stmt
   labelled_at read x ts = do

@@ -5,6 +5,7 @@
 
 pub mod annotations;
 mod brackets;
+mod ends;
 mod heads;
 pub mod laws;
 mod lines;
@@ -18,6 +19,7 @@ mod statements;
 mod switches;
 mod tries;
 mod try_heads;
+mod try_parts;
 mod whole;
 mod words;
 

@@ -1,23 +1,40 @@
 //! Statements with statements or expressions in them, made of what was read (JLS 14).
 ghost use Rattle.std.specs.Prelude.{◌≡◌, ◌≤◌, ◌∷◌, length, map, option_map, IfOk};
-ghost use Rattle.java_tree.specs.Trees.{If, IfElse, Block, Local, Run, Empty, pack_stmts};
-ghost use Rattle.java_tree.specs.Rows.{While, Sync, Switch};
+ghost use Rattle.java_tree.specs.Trees.{If, IfElse, Block, Labelled, Local, Run, Empty, pack_stmts};
+ghost use Rattle.java_tree.specs.Rows.{Do, While, Sync, Switch};
 ghost use Rattle.java_tree.specs.KeptPlaces.{Places, kept, maybe_puts, each_puts, expr_places, stmt_places};
 ghost use Rattle.java_tree.specs.KeptPlaces.{locals_places, group_places};
 ghost use Rattle.java_tree.specs.View.{expr_of, locals_of, stmt_of, group_of, pack_groups};
 ghost use Rattle.java_parser_expressions.specs.Closings.{as_read};
 ghost use Rattle.java_parser_methods.specs.HeadReading.{for_of};
+ghost use Rattle.java_parser_methods.specs.RowReading.{as_made, labelled_with};
 ghost use Rattle.java_parser_methods.specs.HeadView.{head_of, head_places};
 ghost use Rattle.java_parser_types.specs.Tokens.{spelled};
 ghost use Rattle.java_parser_types.specs.ReadAnswer.{Gives};
 
 use super::heads::ForHead;
 use java_lexer::Token;
-use java_parser_parts::nodes::boxed;
+use java_parser_parts::bodies::may_have_label;
 use java_parser_types::error::ReadError;
+use java_parser_types::look::ident;
 use java_tree::{Apart, Expression, GroupTree, LocalsTree, Statement};
 use racer_base::Place;
 use std::alloc::Global;
+
+/// This statement in memory of its own, and the tokens behind it.
+pub fn boxed(
+    alloc: Global,
+    statement: Statement,
+    tokens: &[Token],
+) -> Result<(Box<Statement>, &[Token]), ReadError>
+    ensures gives { Gives (λ x. (stmt_of x.0.value, map spelled x.1.now)) result (as_made (stmt_of statement)
+        (map spelled tokens.now)) }
+    ensures places { IfOk result (λ x. stmt_places x.0.value (kept x.1.now) ≡ stmt_places statement
+        (kept tokens.now)) }
+    ensures shorter { IfOk result (λ x. length x.1.now ≤ length tokens.now) }
+{
+    Ok((Box::new(alloc, statement)?, tokens))
+}
 
 /// JLS 14.6.
 pub fn empty(alloc: Global, tokens: &[Token]) -> Result<(Box<Statement>, &[Token]), ReadError>
@@ -215,4 +232,56 @@ pub fn headed(
     ensures shorter { IfOk result (λ x. length x.1.now ≤ length tokens.now) }
 {
     boxed(alloc, headed_statement(head, body), tokens)
+}
+
+/// JLS 14.13.
+pub fn repeated_after(
+    alloc: Global,
+    body: Box<Statement>,
+    condition: Box<Expression>,
+    tokens: &[Token],
+) -> Result<(Box<Statement>, &[Token]), ReadError>
+    ensures gives { Gives (λ x. (stmt_of x.0.value, map spelled x.1.now)) result (as_read
+        (Do (stmt_of body.value) (expr_of condition.value)) (map spelled tokens.now)) }
+    ensures places { IfOk result (λ x. stmt_places x.0.value (kept x.1.now) ≡
+        stmt_places body.value (expr_places condition.value (kept tokens.now))) }
+    ensures shorter { IfOk result (λ x. length x.1.now ≤ length tokens.now) }
+{
+    boxed(alloc, Statement::Do(body, Apart::from(condition)), tokens)
+}
+
+/// Behind a name with its `:` (JLS 14.7).
+fn naming<'a>(
+    alloc: Global,
+    token: &Token,
+    body: Box<Statement>,
+    tokens: &'a [Token],
+) -> Result<(Box<Statement>, &'a [Token]), ReadError>
+    ensures gives { Gives (λ x. (stmt_of x.0.value, map spelled x.1.now)) result (as_read
+        (Labelled token.now.text (stmt_of body.value)) (map spelled tokens.now)) }
+    ensures places { IfOk result (λ x. stmt_places x.0.value (kept x.1.now) ≡
+        token.now.place ∷ stmt_places body.value (kept tokens.now)) }
+    ensures shorter { IfOk result (λ x. length x.1.now ≤ length tokens.now) }
+{
+    let name = Apart::new(alloc, ident(alloc, token)?)?;
+    boxed(alloc, Statement::Labelled(name, body), tokens)
+}
+
+/// The same, where the statement behind is no declaration.
+pub fn labelled<'a>(
+    alloc: Global,
+    token: &Token,
+    body: Box<Statement>,
+    tokens: &'a [Token],
+) -> Result<(Box<Statement>, &'a [Token]), ReadError>
+    ensures gives { Gives (λ x. (stmt_of x.0.value, map spelled x.1.now)) result (labelled_with token.now.text
+        (stmt_of body.value) (map spelled tokens.now)) }
+    ensures places { IfOk result (λ x. stmt_places x.0.value (kept x.1.now) ≡
+        token.now.place ∷ stmt_places body.value (kept tokens.now)) }
+    ensures shorter { IfOk result (λ x. length x.1.now ≤ length tokens.now) }
+{
+    if !may_have_label(&body) {
+        return Err(ReadError::Unformed);
+    }
+    naming(alloc, token, body, tokens)
 }

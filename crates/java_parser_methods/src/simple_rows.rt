@@ -12,11 +12,10 @@ ghost use Rattle.java_parser_types.specs.Tokens.{spelled};
 ghost use Rattle.java_parser_types.specs.ReadAnswer.{Gives};
 
 use super::heads::expression_until;
-use super::nodes::maybe_tree;
+use super::nodes::{boxed, maybe_tree};
 use java_lexer::Token;
 use java_parser_expressions::expressions::read_expression;
 use java_parser_lookahead::lookahead::after_name;
-use java_parser_parts::nodes::boxed;
 use java_parser_types::error::ReadError;
 use java_parser_types::look::{after_sign, ident, sign};
 use java_tree::{Apart, Expression, Ident, Statement};

@@ -5,15 +5,16 @@ ghost use Rattle.java_tree.specs.Rows.{catch_row};
 ghost use Rattle.java_tree.specs.View.{catch_of, stmt_of, pack_rows};
 ghost use Rattle.java_parser_grammar.specs.StatementReading.{pieces_at, stmt_at, block_at};
 ghost use Rattle.java_parser_grammar.specs.JavaReaders.{method_readers};
-ghost use Rattle.java_parser_parts.specs.PartsView.{block_of, parts_places};
+ghost use Rattle.java_parser_methods.specs.TryView.{block_of, parts_places};
 ghost use Rattle.java_parser_methods.specs.RowReading.{parts_at, try_at};
 ghost use Rattle.java_parser_types.specs.Tokens.{spelled};
 ghost use Rattle.java_parser_types.specs.ReadAnswer.{Gives};
 
 use super::statements::read_block;
 use super::try_heads::{catch_parameter, resources};
+use super::try_parts::{TryParts, tried};
 use java_lexer::Token;
-use java_parser_parts::try_parts::{TryPart, TryParts, tried};
+use java_parser_parts::try_parts::TryPart;
 use java_parser_types::error::ReadError;
 use java_tree::{CatchTree, Statement};
 use std::alloc::Global;

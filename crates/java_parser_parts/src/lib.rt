@@ -3,9 +3,9 @@
 //! What stands behind `case` is read at the level of a conditional (JLS 14.11).
 #![tactic(auto)]
 
+pub mod bodies;
 pub mod conditions;
 pub mod ends;
 pub mod fronts;
 pub mod labels;
-pub mod nodes;
 pub mod try_parts;

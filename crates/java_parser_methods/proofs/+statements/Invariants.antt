@@ -5,7 +5,7 @@ use Rattle.java_tree.specs.View.{stmt_of, group_of, catch_of}
 use Rattle.java_parser_grammar.specs.StatementReading.{stmts_at, braces_at, stmt_at, block_at, group_stmts_at}
 use Rattle.java_parser_grammar.specs.StatementReading.{groups_at, pieces_at}
 use Rattle.java_parser_grammar.specs.JavaReaders.{method_readers}
-use Rattle.java_parser_parts.specs.PartsView.{block_of, parts_places}
+use Rattle.java_parser_methods.specs.TryView.{block_of, parts_places}
 use Rattle.java_parser_methods.specs.RowReading.{groups_finished, parts_at, parts_finished, parts_left}
 use Rattle.java_parser_types.specs.Tokens.{spelled}
 use Rattle.java_parser_types.specs.Finishing.{finished}

@@ -34,7 +34,7 @@ use Rattle.java_parser_methods.proofs.PartLoops.{clause_goes_on, clause_fails, l
 use Rattle.java_parser_methods.proofs.PartLoops.{clause_put, last_put, no_part_before, nothing_left}
 use Rattle.java_parser_methods.specs.RowReading.{labelled_at, parts_at}
 use Rattle.java_parser_parts.specs.Parts.{switch_front_at}
-use Rattle.java_parser_parts.specs.PartsView.{block_of}
+use Rattle.java_parser_methods.specs.TryView.{block_of}
 use Rattle.java_parser_types.specs.ReadAnswer.{Fails}
 
 pub statements::row-returns-in-Try-clause-gives : goal.statements::row-returns-in-Try-clause-gives

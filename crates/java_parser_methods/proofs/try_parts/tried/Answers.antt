@@ -4,10 +4,11 @@ use Rattle.java_tree.specs.Trees.{pack_stmts}
 use Rattle.java_tree.specs.View.{stmt_of, resources_of, catch_of, Finally, pack_rows}
 use Rattle.java_parser_types.specs.Tokens.{spelled}
 use Rattle.java_parser_types.proofs.ReadLoops.{ends_give}
-use Rattle.java_parser_parts.specs.Parts.{has_row, try_with}
-use Rattle.java_parser_parts.specs.PartsView.{block_of}
-use Rattle.java_parser_parts.proofs.SeenParts.{some_seen, seen_twice}
-use Rattle.java_parser_parts.proofs.try_parts.tried.Goals as goal
+use Rattle.java_parser_parts.specs.Parts.{has_row}
+use Rattle.java_parser_methods.specs.RowReading.{try_with}
+use Rattle.java_parser_methods.specs.TryView.{block_of}
+use Rattle.java_parser_methods.proofs.SeenOptions.{some_seen, seen_twice}
+use Rattle.java_parser_methods.proofs.try_parts.tried.Goals as goal
 
 pub returns-then-not-stands-clause-gives : goal.returns-then-not-stands-clause-gives
 returns-then-not-stands-clause-gives c =
