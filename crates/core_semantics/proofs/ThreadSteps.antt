@@ -1,9 +1,10 @@
 -- Steps of a thread.
-use Rattle.std.proofs.Common.{◌≡◌, ◌<◌, ◌≤◌, Bool, cond, List, ◌∷◌}
-use Rattle.std.proofs.Common.{ap, subst, ◌∙◌, lt-ltb, le-ltb, drop}
+use Rattle.std.proofs.Common.{◌≡◌, Bool, true, false, ◌&&◌, cond, nat_lt, List, ◌∷◌}
+use Rattle.std.proofs.Common.{ap, subst, ◌∙◌, drop}
 use Rattle.core_code.specs.Core.{Core}
 use Rattle.core_code.specs.declared.code.Op.{Op as CoreOp}
 use Rattle.core_code.specs.declared.code.Op.TheVariants.{Ret}
+use Rattle.core_code.specs.Tree.{is_return}
 use Rattle.core_semantics.specs.declared.answer.Holder.{Holder}
 use Rattle.core_semantics.specs.declared.answer.StepAnswer.{StepAnswer}
 use Rattle.core_semantics.specs.declared.answer.Turn.{Turn}
@@ -12,22 +13,23 @@ use Rattle.core_semantics.specs.declared.pending.NextStep.{NextStep}
 use Rattle.core_semantics.specs.declared.thread.Running.{Running}
 use Rattle.core_semantics.specs.Answers.{IsAnswer}
 use Rattle.core_semantics.specs.State.{Todo, Store}
-use Rattle.core_semantics.specs.Steps.{Spot, Goes, After, after, frame_step, operated, returned, todo_step}
-use Rattle.core_semantics.specs.Steps.{unlocked, with_todo}
+use Rattle.core_semantics.specs.Steps.{Spot, Goes, After, after, frame_step, op_step, operated, returned}
+use Rattle.core_semantics.specs.Steps.{todo_step, unlocked, with_todo}
 use Rattle.core_semantics.specs.View.{spot_of, step_of, todo_of}
 use Rattle.core_semantics.proofs.Answered.{along}
 
-pub ret_unlocks : (core : Core) (s : Spot) (rest : List Todo) (op : CoreOp) → op ≡ Ret → 0 < s.frame.locked →
-    operated core s rest op ≡ Goes (after (unlocked s))
-ret_unlocks core s rest op is_ret some =
-    ap (operated core s rest) is_ret
-    ∙ ap (λ (b : Bool). cond b (Goes (after (unlocked s))) (returned (with_todo s rest))) (lt-ltb 0 s.frame.locked some)
+-- an operation that frees a monitor
+pub frees : (core : Core) (s : Spot) (rest : List Todo) (op : CoreOp) →
+    (is_return op && nat_lt 0 s.frame.locked) ≡ true → operated core s rest op ≡ Goes (after (unlocked s))
+frees core s rest op h =
+    ap (λ (b : Bool). cond b (Goes (after (unlocked s))) (op_step core (with_todo s rest) op)) h
 
-pub ret_returns : (core : Core) (s : Spot) (rest : List Todo) (op : CoreOp) → op ≡ Ret → s.frame.locked ≤ 0 →
-    operated core s rest op ≡ returned (with_todo s rest)
-ret_returns core s rest op is_ret none =
-    ap (operated core s rest) is_ret
-    ∙ ap (λ (b : Bool). cond b (Goes (after (unlocked s))) (returned (with_todo s rest))) (le-ltb 0 s.frame.locked none)
+-- a return that frees none
+pub ret_returns : (core : Core) (s : Spot) (rest : List Todo) (op : CoreOp) → op ≡ Ret →
+    (is_return op && nat_lt 0 s.frame.locked) ≡ false → operated core s rest op ≡ returned (with_todo s rest)
+ret_returns core s rest op is_ret h =
+    ap (λ (b : Bool). cond b (Goes (after (unlocked s))) (op_step core (with_todo s rest) op)) h
+    ∙ ap (op_step core (with_todo s rest)) is_ret
 
 abbrev pub with_pending : Running → List Pending → Running
 with_pending r pending =

@@ -5,7 +5,7 @@ use Rattle.std.specs.declared.cmp.Ordering.{Ordering}
 use Rattle.std.specs.Cmp.Lexicographic.{slice_cmp}
 use Rattle.racer_base.specs.declared.ids.FieldId.{FieldId}
 use Rattle.core_code.specs.declared.code.LockKind.{LockKind}
-use Rattle.core_code.specs.declared.code.LockKind.TheVariants.{Own, Explicit}
+use Rattle.core_semantics_monitors.specs.Kinds.{lock_kind_number}
 use Rattle.core_semantics.specs.declared.answer.Holder.{Holder}
 use Rattle.core_semantics.specs.declared.answer.Holder.TheVariants.{Object as Of, Outside}
 use Rattle.core_semantics.specs.declared.object.StartRoot.{StartRoot}
@@ -55,10 +55,6 @@ object_key o =
 
 abbrev pub object_cmp : Object → Object → Ordering
 object_cmp a b = slice_cmp nat_cmp (object_key a) (object_key b)
-
-abbrev pub lock_kind_number : LockKind → ℕ
-lock_kind_number Own = 0
-lock_kind_number Explicit = 1
 
 abbrev pub lock_kind : Holder → LockKind
 lock_kind (Of kind o) = kind

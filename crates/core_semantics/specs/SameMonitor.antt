@@ -7,10 +7,11 @@ use Rattle.std.specs.Cmp.Lexicographic.{nat_list_cmp_total, nat_list_eq_equiv, p
 use Rattle.std.specs.Ordering.{as_partial_cmp, eq_by_cmp}
 use Rattle.core_code.specs.declared.code.LockKind.{LockKind}
 use Rattle.core_code.specs.declared.code.LockKind.TheVariants.{Own, Explicit}
+use Rattle.core_semantics_monitors.specs.Kinds.{lock_kind_number}
 use Rattle.core_semantics.specs.declared.answer.Holder.{Holder}
 use Rattle.core_semantics.specs.declared.answer.Holder.TheVariants.{Object as Of, Outside}
 use Rattle.core_semantics.specs.Objects.{same_lock_kind, same_monitor}
-use Rattle.core_semantics.specs.Order.{holder_cmp, holder_key, lock_kind_number}
+use Rattle.core_semantics.specs.Order.{holder_cmp, holder_key}
 use Rattle.core_semantics.specs.Same.{same_object-key, and_true, and_false}
 
 kinds_by_number : (j k : LockKind) → same_lock_kind j k ≡ nat_eq (lock_kind_number j) (lock_kind_number k)

@@ -1,9 +1,10 @@
 //! Equality and an order of monitors.
 ghost use Rattle.std.specs.Prelude.{◌≡◌, IfOk};
-ghost use Rattle.core_semantics.specs.Order.{holder_cmp, lock_kind, lock_kind_number, owner_cmp};
+ghost use Rattle.core_semantics_monitors.specs.Kinds.{lock_kind_number};
+ghost use Rattle.core_semantics.specs.Order.{holder_cmp, lock_kind, owner_cmp};
 
 use crate::Holder;
-use core_code::LockKind;
+use core_semantics_monitors::lock_kind_number;
 use racer_base::Memory;
 use std::alloc::Global;
 use std::cmp::Ordering;
@@ -89,10 +90,7 @@ impl Holder {
         ensures { result ≡ lock_kind_number (lock_kind self.now) }
     {
         let (Holder::Object(kind, _) | Holder::Outside(kind)) = self;
-        match kind {
-            LockKind::Own => 0,
-            LockKind::Explicit => 1,
-        }
+        lock_kind_number(*kind)
     }
 
     /// A monitor that is equal to this one.

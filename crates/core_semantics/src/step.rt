@@ -19,6 +19,7 @@ use crate::store::Store;
 use crate::thread::{Running, Thread};
 use crate::{StepAnswer, Turn};
 use core_code::{Code, Op, Program};
+use core_semantics_monitors::frees_one;
 use racer_base::Memory;
 use std::alloc::Global;
 
@@ -81,11 +82,11 @@ fn operated<'a>(
         (after (spot_of (store_of store.old) running.old locks.old))
         (after (spot_of (store_of store.new) running.new locks.new)) result }
 {
+    if frees_one(op, running.frame.locked) {
+        unlock(&mut running.frame, locks);
+        return StepAnswer::Stepped;
+    }
     match op {
-        Op::Ret if running.frame.locked > 0 => {
-            unlock(&mut running.frame, locks);
-            StepAnswer::Stepped
-        }
         Op::Ret => give_back(given.alloc, running),
         Op::Call(method, count) => call(given.alloc, given.program, running, method, count),
         _ => operate(given.alloc, given.program, store, &mut running.frame, op),

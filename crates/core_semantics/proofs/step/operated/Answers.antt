@@ -3,19 +3,19 @@ use Rattle.std.proofs.Common.{sym, ap, ◌∙◌, drop}
 use Rattle.core_semantics.specs.Steps.{Goes, after, operated, returned}
 use Rattle.core_semantics.specs.View.{behind_spot, callers_of, spot_of, store_of, todo_of}
 use Rattle.core_semantics.proofs.Answered.{along}
-use Rattle.core_semantics.proofs.ThreadSteps.{ret_unlocks, ret_returns}
+use Rattle.core_semantics.proofs.ThreadSteps.{frees, ret_returns}
 use Rattle.core_semantics.proofs.step.operated.Goals as goal
+
+pub returns-then-frees_one : goal.returns-then-frees_one
+returns-then-frees_one c =
+    let running = c.args.running.now in
+    let store = store_of c.args.store.now in
+    frees (core c.args.given.now.program.now) (spot_of store running c.args.locks.now)
+    (todo_of (drop 1 running.frame.pending)) c.args.op (sym c.frees_one.ensures ∙ c.if-frees_one.true)
+    ∙ ap (λ s. Goes (after s)) (sym (c.unlock.ensures store (callers_of running)))
 
 pub returns-in-Ret : goal.returns-in-Ret
 returns-in-Ret c =
-    let running = c.args.running.now in
-    let store = store_of c.args.store.now in
-    ret_unlocks (core c.args.given.now.program.now) (spot_of store running c.args.locks.now)
-    (todo_of (drop 1 running.frame.pending)) c.args.op c.in-Ret.is c.if-running-gt0.true
-    ∙ ap (λ s. Goes (after s)) (sym (c.unlock.ensures store (callers_of running)))
-
-pub returns-in-Ret-2 : goal.returns-in-Ret-2
-returns-in-Ret-2 c =
     let running = c.args.running.now in
     let locks = c.args.locks.now in
     let store = store_of c.args.store.now in
@@ -23,7 +23,8 @@ returns-in-Ret-2 c =
     let s = spot_of store running locks in
     along (returned (behind_spot store running locks)) (operated (core c.args.given.now.program.now) s rest c.args.op)
     (after s) (after (spot_of store c.give_back.new.running locks)) c.give_back.result
-    (ret_returns (core c.args.given.now.program.now) s rest c.args.op c.in-Ret-2.is c.if-running-gt0.false)
+    (ret_returns (core c.args.given.now.program.now) s rest c.args.op c.in-Ret.is
+    (sym c.frees_one.ensures ∙ c.if-frees_one.false))
     (c.give_back.ensures store locks)
 
 pub returns-in-Call : goal.returns-in-Call
