@@ -5,8 +5,10 @@ use Rattle.racer_base.specs.declared.ids.VarId.{VarId}
 use Rattle.core_lowering_rules.specs.Context.{Context, Code, ending, guarded}
 use Rattle.core_lowering_rules.specs.Scopes.{after_last}
 use Rattle.core_lowering_rules.specs.Statements.{kept_null, last_of}
-use Rattle.core_lowering_methods.specs.StatementSteps.{Becomes, BothBecome, guarded_by}
-use Rattle.core_lowering_methods.proofs.Inside.{inside-same, inside-after_last}
+use Rattle.core_lowering_parts.specs.StatementParts.{Becomes}
+use Rattle.core_lowering_methods.specs.StatementSteps.{BothBecome, guarded_by}
+use Rattle.core_lowering_parts.proofs.Inside.{inside-same}
+use Rattle.core_lowering_methods.proofs.InsideStatements.{inside-after_last}
 use Rattle.core_lowering_context.proofs.Pieces.{before_seam, behind_seam}
 
 null-alike : (p q : Place) → p ≡ q → (a b : Context) → a.place ≡ p → b.place ≡ q → (o : Option VarId) (x : Code) →

@@ -1,8 +1,5 @@
-pub mod Inside
+pub mod InsideStatements
 pub mod Levels
-pub mod Becoming
-pub mod OptionsMade
-pub mod GroupsFallen
 pub mod StatementCode
 pub mod StatementContexts
 pub mod LoopCode

@@ -11,10 +11,11 @@ use Rattle.core_lowering_rules.specs.Context.{Context, Code, ends_of, repeated, 
 use Rattle.core_lowering_rules.specs.Scopes.{declared, next_variable, started, in_loop, in_labelled}
 use Rattle.core_lowering_rules.specs.Scopes.{back_from, after}
 use Rattle.core_lowering_rules.specs.Statements.{run, run_all, tested, is_endless, broken, one_round, stmt}
-use Rattle.core_lowering_methods.specs.declared.rounds.Round.{Round}
-use Rattle.core_lowering_methods.specs.StatementSteps.{Becomes, closed_from, entered_for, turned, broken_at, while_loop}
-use Rattle.core_lowering_methods.specs.StatementSteps.{do_loop, for_loop, each_loop, next_element, elements}
-use Rattle.core_lowering_methods.proofs.Becoming.{becomes, grown, grown-behind}
+use Rattle.core_lowering_parts.specs.declared.rounds.Round.{Round}
+use Rattle.core_lowering_parts.specs.StatementParts.{Becomes, closed_from, entered_for, turned, broken_at, while_loop}
+use Rattle.core_lowering_parts.specs.StatementParts.{do_loop, for_loop, each_loop, next_element}
+use Rattle.core_lowering_methods.specs.StatementSteps.{elements}
+use Rattle.core_lowering_parts.proofs.Becoming.{becomes, grown, grown-behind}
 use Rattle.core_lowering_context.proofs.Pieces.{two_pieces, behind_seam}
 use Rattle.core_lowering_methods.proofs.StatementCode.{broken-there, block-made}
 use Rattle.core_lowering_methods.proofs.StatementContexts.{inside-for, inside-each}

@@ -16,10 +16,11 @@ use Rattle.core_lowering_rules.proofs.ScopeSteps.{sides_of}
 use Rattle.core_lowering_context.specs.Beginning.{left_at}
 use Rattle.core_lowering_context.specs.Restored.{left_target, left_guard, kept, restored}
 use Rattle.core_lowering_methods.specs.StatementSteps.{behind_first, passed_by}
-use Rattle.core_lowering_methods.proofs.Inside.{Inside, inside-same, inside-then, inside-sides, inside-declared}
-use Rattle.core_lowering_methods.proofs.Inside.{inside-back, inside-started, inside-after, inside-after_all}
-use Rattle.core_lowering_methods.proofs.Inside.{inside-after_groups, inside-resources, left-back}
-use Rattle.core_lowering_methods.proofs.Inside.{same_scope, same_kinds}
+use Rattle.core_lowering_parts.proofs.Inside.{Inside, inside-same}
+use Rattle.core_lowering_methods.proofs.InsideStatements.{inside-then, inside-sides, inside-declared, inside-back}
+use Rattle.core_lowering_methods.proofs.InsideStatements.{inside-started, inside-after, inside-after_all}
+use Rattle.core_lowering_methods.proofs.InsideStatements.{inside-after_groups, inside-resources, left-back}
+use Rattle.core_lowering_methods.proofs.InsideStatements.{same_scope, same_kinds}
 use Rattle.core_lowering_methods.proofs.Levels.{Level, level-after, level-after_all, level-after_groups, target-left}
 
 -- ---- ends of blocks

@@ -1,14 +1,22 @@
 -- The code of a `switch` out of the steps in which it is made.
-use Rattle.std.proofs.Common.{◌≡◌, ℕ, ◌++◌, List, None, length, take, drop, ap, ◌∙◌}
+use Rattle.std.proofs.Common.{◌≡◌, ℕ, ◌++◌, List, None, length, take, drop, map, ap, ◌∙◌}
+use Rattle.java_tree.specs.declared.statements.GroupTree.{GroupTree, out-GroupTree}
+use Rattle.java_tree.specs.declared.statements.Statement.TheFolds.{the_lemmas}
 use Rattle.core_lowering_rules.specs.Trees.{Expr, Groups, Switch}
+use Rattle.core_lowering_rules.specs.TreesOf.{label_of, group_of}
 use Rattle.core_lowering_rules.specs.Context.{Context, Code, within}
 use Rattle.core_lowering_rules.specs.Scopes.{in_switch, back_from, after_groups}
 use Rattle.core_lowering_rules.specs.Statements.{run, stmt, options}
-use Rattle.core_lowering_methods.specs.StatementSteps.{Becomes, closed_from, fork_of}
-use Rattle.core_lowering_methods.proofs.Becoming.{grown-behind}
-use Rattle.core_lowering_methods.proofs.Inside.{closed-there}
+use Rattle.core_lowering_parts.specs.StatementParts.{Becomes, closed_from, fork_of}
+use Rattle.core_lowering_parts.proofs.Becoming.{grown-behind}
+use Rattle.core_lowering_methods.specs.StatementSteps.{statements_of}
+use Rattle.core_lowering_methods.proofs.InsideStatements.{closed-there}
 use Rattle.core_lowering_context.proofs.Pieces.{before_seam, behind_seam}
 use Rattle.core_lowering_methods.proofs.StatementContexts.{inside-switch}
+
+-- the labels of a group and its statements
+pub group-form : (g : GroupTree) → group_of g ≡ (map label_of (out-GroupTree g).labels, statements_of g)
+group-form g = search (the_lemmas)
 
 -- what is taken is what was put behind
 pub taken-back : (old second kept made : Code) (at : ℕ) → at ≡ length old → second ≡ old ++ made →

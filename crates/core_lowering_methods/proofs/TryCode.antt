@@ -13,7 +13,8 @@ use Rattle.core_lowering_rules.specs.Statements.{closed, begun_resources, stmt, 
 use Rattle.core_lowering_locks_pairs.specs.Seen.{body_of, clauses_of, resources_in}
 use Rattle.core_lowering_locks_pairs.proofs.JoinedStatements.{try-form}
 use Rattle.core_lowering_context.specs.Restored.{left_guard}
-use Rattle.core_lowering_methods.specs.StatementSteps.{Becomes, BothBecome, closed_from, behind_first, first_part}
+use Rattle.core_lowering_parts.specs.StatementParts.{Becomes, closed_from}
+use Rattle.core_lowering_methods.specs.StatementSteps.{BothBecome, behind_first, first_part}
 use Rattle.core_lowering_methods.specs.StatementSteps.{guarded_by}
 use Rattle.core_lowering_methods.proofs.FinallyCode.{null-there}
 use Rattle.core_lowering_context.proofs.Pieces.{two_pieces}

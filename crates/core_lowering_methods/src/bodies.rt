@@ -21,12 +21,12 @@ ghost use Rattle.core_lowering_context.specs.Beginning.{left_at};
 ghost use Rattle.core_lowering_context.specs.Sources.{source_of};
 ghost use Rattle.core_lowering_context.specs.Views.{folder_of};
 
-use crate::returns::lower_return_nothing;
 use crate::statements::lower_block;
 use core_code::{Code, LockKind, Reason};
 use core_lowering_context::{Body, Context, Making, Source, enter, enter_spelled};
 use core_lowering_drafts::{Asked, Draft, Stop, Written, write, write_small};
 use core_lowering_expressions::begin_members;
+use core_lowering_parts::lower_return_nothing;
 use java_resolver::{Table, has_word};
 use java_tree::{MethodTree, ResultTree};
 use racer_base::{Items, Kind, Memory, Place};

@@ -5,14 +5,15 @@ ghost use Rattle.core_lowering_rules.specs.TreesOf.{resource_of, resources_of, s
 ghost use Rattle.core_lowering_rules.specs.Scopes.{with_resource, with_resources, after_last, unlocked_in};
 ghost use Rattle.core_lowering_rules.specs.Statements.{begun_resource, begun_resources, last_of, kept_null};
 ghost use Rattle.core_lowering_context.specs.Drafts.{code_of};
-ghost use Rattle.core_lowering_methods.specs.StatementSteps.{Becomes, BothBecome, guarded_by};
+ghost use Rattle.core_lowering_parts.specs.StatementParts.{Becomes};
+ghost use Rattle.core_lowering_methods.specs.StatementSteps.{BothBecome, guarded_by};
 
-use crate::returns::end_return;
 use core_code::Op;
 use core_lowering_context::{Context, Making};
 use core_lowering_drafts::Exit;
 use core_lowering_expressions::{lower_expression, set};
 use core_lowering_locks::do_unlock_any;
+use core_lowering_parts::end_return;
 use java_tree::{Apart, ResourceTree, ResourcesTree, Statement};
 use racer_base::{Memory, VarId};
 use std::alloc::Global;

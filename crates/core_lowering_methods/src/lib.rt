@@ -10,14 +10,9 @@
 //! statement is a function outside of the cycle of statements.
 #![tactic(auto)]
 
-mod blocks;
 mod bodies;
 mod finallies;
-mod groups;
-mod locals;
 mod loops;
-mod returns;
-mod rounds;
 mod statements;
 mod switches;
 mod tries;

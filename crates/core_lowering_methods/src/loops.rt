@@ -12,13 +12,12 @@ ghost use Rattle.core_lowering_rules.specs.Statements.{stmt, one_round};
 ghost use Rattle.core_lowering_context.specs.Drafts.{code_of};
 ghost use Rattle.core_lowering_methods.specs.StatementSteps.{elements};
 
-use crate::blocks::end_block;
-use crate::rounds::{
-    Round, begin_for, end_do, end_for, end_for_each, end_round, end_while, lower_next,
-};
 use crate::statements::lower_statement;
 use core_lowering_context::{Context, Making};
 use core_lowering_expressions::lower_run;
+use core_lowering_parts::{
+    Round, begin_for, end_block, end_do, end_for, end_for_each, end_round, end_while, lower_next,
+};
 use java_tree::{Apart, Expression, Ident, StartTree, Statement, TypeTree};
 use racer_base::{Memory, VarId};
 use std::alloc::Global;

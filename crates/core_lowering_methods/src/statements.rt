@@ -8,16 +8,14 @@ ghost use Rattle.core_lowering_rules.specs.Statements.{run, stmt, stmts};
 ghost use Rattle.core_lowering_locks_pairs.specs.Seen.{item_seen};
 ghost use Rattle.core_lowering_context.specs.Drafts.{code_of};
 
-use crate::blocks::end_block;
-use crate::locals::lower_locals;
 use crate::loops::{lower_do, lower_for, lower_for_each, lower_labelled, lower_while};
-use crate::returns::lower_return;
 use crate::switches::lower_switch;
 use crate::tries::{lower_locked, lower_try};
 use core_code::{LockKind, Op};
 use core_lowering_context::{Context, Making, lower_break, lower_continue};
 use core_lowering_expressions::{lower_expression, lower_run};
 use core_lowering_locks_pairs::{Item, first_item};
+use core_lowering_parts::{end_block, lower_locals, lower_return};
 use java_tree::{Expression, Statement};
 use racer_base::{Memory, Place};
 use std::alloc::Global;

@@ -1,24 +1,19 @@
 //! The code of `try` (JLS 14.20).
-ghost use Rattle.std.specs.Prelude.{◌≡◌, ◌++◌, OnOk, drop, map, take};
-ghost use Rattle.core_code.specs.declared.code.LockKind.TheVariants.{Explicit};
-ghost use Rattle.core_lowering_rules.specs.Context.{held};
-ghost use Rattle.core_lowering_rules.specs.Locks.{lock_noted};
+ghost use Rattle.std.specs.Prelude.{◌≡◌, ◌++◌, OnOk, map};
 ghost use Rattle.core_lowering_rules.specs.Trees.{Finally, pack_stmts, pack_catches};
 ghost use Rattle.core_lowering_rules.specs.TreesOf.{stmt_of, catch_of, try_of};
 ghost use Rattle.core_lowering_rules.specs.Scopes.{after, caught};
 ghost use Rattle.core_lowering_rules.specs.Statements.{stmt};
 ghost use Rattle.core_lowering_locks_pairs.specs.Seen.{lock_seen, under, body_of, clauses_of, resources_in};
 ghost use Rattle.core_lowering_context.specs.Drafts.{code_of};
-ghost use Rattle.core_lowering_context.specs.Restored.{restored};
 ghost use Rattle.core_lowering_methods.specs.StatementSteps.{behind_first, first_part, passed_by};
 
-use crate::blocks::end_block;
 use crate::finallies::{end_finally, lower_resources, note_unlocks};
 use crate::statements::{lower_block, lower_statements};
-use core_code::LockKind;
-use core_lowering_context::{Context, Kept, Making, note_lock};
+use core_lowering_context::{Context, Making};
 use core_lowering_expressions::lower_expression;
 use core_lowering_locks_pairs::Lock;
+use core_lowering_parts::{end_block, end_clause, end_locked};
 use java_tree::{CatchTree, Statement, TryTree};
 use racer_base::{Kind, Memory};
 use std::alloc::Global;
@@ -88,23 +83,6 @@ pub fn lower_try(
     }
 }
 
-/// The end of a locked try, whose block is there from this part on: it stands under the lock.
-fn end_locked(
-    alloc: Global,
-    context: &mut Context,
-    lock: Lock,
-    at: usize,
-    draft: &mut Making,
-) -> Result<(), Memory>
-    ensures context { OnOk result (context.new ≡ lock_noted context.old (lock_seen lock.entry).1) }
-    ensures code { OnOk result (code_of draft.new ≡ take at (code_of draft.old)
-        ++ held Explicit (lock_seen lock.entry).0 (drop at (code_of draft.old))) }
-{
-    draft.hold(alloc, LockKind::Explicit, lock.place, at)?;
-    note_lock(context, lock.on);
-    Ok(())
-}
-
 /// A locked try, under its lock.
 #[cycle(statements)]
 pub fn lower_locked(
@@ -123,23 +101,6 @@ pub fn lower_locked(
     lower_block(alloc, context, tried.body.as_slice(), draft)?;
     end_locked(alloc, context, lock, body, draft)?;
     pass_clauses(alloc, context, tried.clauses.as_slice(), draft)
-}
-
-/// The end of a catch clause whose code is there from this part on: it is not kept, and nothing else is but what is
-/// known of locks.
-fn end_clause(
-    alloc: Global,
-    context: &mut Context,
-    before: Kept,
-    at: usize,
-    draft: &mut Making,
-) -> Result<(), Memory>
-    ensures context { OnOk result (context.new ≡ restored before context.old) }
-    ensures kept { OnOk result (code_of draft.new ≡ take at (code_of draft.old)) }
-{
-    draft.taken(alloc, at)?;
-    context.restore(before);
-    Ok(())
 }
 
 /// Catch clauses, of which no code is kept.

@@ -8,7 +8,7 @@ use Rattle.core_lowering_rules.specs.Scopes.{after_all, after_groups, caught}
 use Rattle.core_lowering_rules.specs.Statements.{stmts, options}
 use Rattle.core_lowering_locks_pairs.specs.Seen.{item_size}
 use Rattle.core_lowering_context.specs.Drafts.{code_of}
-use Rattle.core_lowering_methods.specs.StatementSteps.{options_with}
+use Rattle.core_lowering_parts.specs.StatementParts.{options_with}
 use Rattle.core_lowering_methods.proofs.+statements.Given as goal
 
 -- what was made, and then the statements that are left

@@ -13,7 +13,7 @@ use Rattle.core_lowering_rules.specs.Statements.{run, stmt, stmts}
 use Rattle.core_lowering_locks_pairs.specs.Seen.{item_seen}
 use Rattle.core_lowering_context.specs.Drafts.{code_of}
 use Rattle.core_lowering_methods.proofs.Choices.{choice-made, half-made}
-use Rattle.core_lowering_methods.proofs.Inside.{inside-after_all}
+use Rattle.core_lowering_methods.proofs.InsideStatements.{inside-after_all}
 use Rattle.core_lowering_methods.proofs.StatementCode.{block-made, held-made}
 use Rattle.core_lowering_methods.proofs.StatementContexts.{left-made}
 use Rattle.core_lowering_methods.proofs.+statements.Goals as goal

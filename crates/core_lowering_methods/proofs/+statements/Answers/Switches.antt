@@ -12,10 +12,10 @@ use Rattle.core_lowering_rules.specs.Context.{Context}
 use Rattle.core_lowering_rules.specs.Scopes.{after_all, after_groups}
 use Rattle.core_lowering_rules.specs.Statements.{stmts, options}
 use Rattle.core_lowering_context.specs.Drafts.{code_of}
-use Rattle.core_lowering_methods.specs.StatementSteps.{statements_of, options_with, settled}
-use Rattle.core_lowering_methods.proofs.OptionsMade.{group-form}
+use Rattle.core_lowering_parts.specs.StatementParts.{options_with, settled}
+use Rattle.core_lowering_methods.specs.StatementSteps.{statements_of}
 use Rattle.core_lowering_methods.proofs.StatementContexts.{switch-left}
-use Rattle.core_lowering_methods.proofs.SwitchCode.{taken-back, taken-made, switch-made}
+use Rattle.core_lowering_methods.proofs.SwitchCode.{group-form, taken-back, taken-made, switch-made}
 use Rattle.core_lowering_methods.proofs.+statements.Goals as goal
 
 -- ---- one group

@@ -202,8 +202,9 @@ tries::lower_locked-returns-clause-code t c =
     let one = code_of c.lower_expression.new.draft in
     on_ok_weaker c.pass_clauses.result
     (locked-made Explicit c.args.lock.place (code_of c.args.draft.now) one (code_of c.lower_block.new.draft)
-    (code_of c.end_locked.new.draft) (code_of c.pass_clauses.new.draft) (code a (expr_of c.args.lock.on.now)) (stmt a (tree.Block (body_of c.args.tried.now)))
-    c.len-body.result c.in_ok-lower_expression.ensures.code c.len-body.ensures
+    (code_of c.end_locked.new.draft) (code_of c.pass_clauses.new.draft)
+    (code a (expr_of c.args.lock.on.now)) (stmt a (tree.Block (body_of c.args.tried.now))) c.len-body.result
+    c.in_ok-lower_expression.ensures.code c.len-body.ensures
     (c.in_ok-lower_block.ensures.code
     ∙ ap (λ (xs : List Statement). one ++ stmt a (tree.Block (pack_stmts (map stmt_of xs))))
     c.as_slice.ensures.value)

@@ -5,7 +5,7 @@ use Rattle.racer_base.specs.declared.ids.VarId.{VarId}
 use Rattle.core_lowering_rules.specs.Context.{ending}
 use Rattle.core_lowering_rules.specs.Statements.{kept_null}
 use Rattle.core_lowering_context.specs.Drafts.{code_of}
-use Rattle.core_lowering_methods.proofs.Becoming.{becomes}
+use Rattle.core_lowering_parts.proofs.Becoming.{becomes}
 use Rattle.core_lowering_methods.proofs.finallies.end_returned.Goals as goal
 
 pub returns : goal.returns

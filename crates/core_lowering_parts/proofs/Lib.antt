@@ -1,0 +1,5 @@
+pub mod Inside
+pub mod Becoming
+pub mod ReturnCode
+pub mod OptionsMade
+pub mod GroupsFallen
