@@ -144,8 +144,8 @@ spelled_code context members m =
 abbrev pub none_analysed : Context → Context
 none_analysed context = record context { folder = record context.folder { statuses = [] } }
 
--- whether the code of the block is too large for the tokens of the method, whose tree keeps how many they are: told where
--- no method is analysed, so that it does not depend on which methods are
+-- whether the code of the block is too large for the tokens of the method, whose tree keeps how many they are: told
+-- where no method is analysed, so that it does not depend on which methods are
 abbrev pub is_large : Context → MethodTree → Bool
 is_large context m = not (is_small m.tokens (in_sequence (block_code (none_analysed context) (body_of m))))
 
