@@ -1,11 +1,8 @@
 pub mod Counting
 pub mod SameReasons
 pub mod SameSources
-pub mod SameCounts
-pub mod Tallies
 pub mod SameCalls
 pub mod LowRows
 pub mod Ordered
 pub mod SamePrograms
 pub mod Loops
-pub mod MethodsMade

@@ -10,7 +10,8 @@ use Rattle.core_code.specs.CalleeRows.{different}
 use Rattle.core_lowering_rules.specs.Context.{Folder}
 use Rattle.core_lowering_rules.specs.Methods.{Source}
 use Rattle.core_lowering_rules.specs.Programs.{method_cores, statuses_from}
-use Rattle.core_lowering.specs.Calls.{code_in, row_in, edges}
+use Rattle.core_lowering_surveys.specs.Surveys.{code_in, row_in}
+use Rattle.core_lowering.specs.Calls.{edges}
 
 abbrev all_calls : Method → List MethodId
 all_calls m = all_calls_in m.code

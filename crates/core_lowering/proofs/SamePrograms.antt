@@ -15,8 +15,8 @@ use Rattle.core_lowering_rules.specs.Methods.{Source}
 use Rattle.core_lowering_rules.specs.Programs.{sources_of, declared_in, statuses_from, class_core}
 use Rattle.core_lowering_rules.specs.Programs.{field_core}
 use Rattle.core_lowering_rules.specs.Programs.{method_cores, skipped_in, in_order, program_of, draft_of}
-use Rattle.core_lowering.specs.Calls.{row_in}
-use Rattle.core_lowering.specs.Reasons.{own_reason, with_recursive}
+use Rattle.core_lowering_surveys.specs.Surveys.{row_in}
+use Rattle.core_lowering_surveys.specs.Reasons.{own_reason, with_recursive}
 use Rattle.core_lowering_rules.specs.Conditions.{unit_places}
 use Rattle.core_lowering_rules.proofs.KeptPlaces.{sources-placed}
 use Rattle.core_lowering_rules.proofs.NamedCode.{any-place}

@@ -12,7 +12,7 @@ use Rattle.core_lowering_rules.specs.Context.{Folder}
 use Rattle.core_lowering_rules.specs.Methods.{Source, is_past_limit}
 use Rattle.core_lowering_rules.specs.Programs.{is_outside, is_overloaded, local_count, where_so, status_of}
 use Rattle.core_lowering_rules.specs.Programs.{statuses_from}
-use Rattle.core_lowering.specs.Reasons.{own_reason, with_recursion, with_recursive}
+use Rattle.core_lowering_surveys.specs.Reasons.{own_reason, with_recursion, with_recursive}
 
 status-same : (folder : Folder) (b : Bool) (s : Source) →
     status_of folder b s ≡ with_recursion (own_reason folder s) b

@@ -1,21 +1,8 @@
--- No public contract rests on this: the calls of code, as they are gathered, and those of methods.
+-- No public contract rests on this: the calls of methods, counted.
 use Rattle.std.specs.Prelude.{ℕ, ◌+◌, Bool, true, false, List, [], ◌∷◌, length, nat_lt}
 use Rattle.std.specs.List.{list_all}
 use Rattle.racer_base.specs.declared.ids.MethodId.{MethodId}
-use Rattle.core_code.specs.Tree.{Tree, in_sequence}
-use Rattle.core_code.specs.Recursion.{all_calls_in}
 use Rattle.core_code.specs.CalleeRows.{different}
-use Rattle.core_lowering_rules.specs.Context.{Folder}
-use Rattle.core_lowering_rules.specs.Methods.{Source, method_code}
-use Rattle.core_lowering_drafts.specs.Sites.{numbered}
-
--- the code of a method
-abbrev pub code_in : Folder → Source → Tree
-code_in folder s = numbered 0 (in_sequence (method_code folder s))
-
--- the methods that a method calls
-abbrev pub row_in : Folder → Source → List MethodId
-row_in folder s = all_calls_in (code_in folder s)
 
 -- whether these are numbers below this one
 abbrev pub are_low : ℕ → List MethodId → Bool

@@ -7,9 +7,9 @@ use Rattle.java_resolver.specs.Declarations.{classes_of, fields_of, methods_of}
 use Rattle.java_resolver.specs.Table as seen
 use Rattle.core_code.specs.declared.code.Reason.{Reason}
 use Rattle.core_lowering_rules.specs.Programs.{sources_of}
-use Rattle.core_lowering.specs.declared.surveys.Surveyed.{Surveyed}
-use Rattle.core_lowering.specs.Surveys.{seen as source_seen, IsRight}
-use Rattle.core_lowering.specs.Reasons.{declared_by, own_reason}
+use Rattle.core_lowering_surveys.specs.declared.surveys.Surveyed.{Surveyed}
+use Rattle.core_lowering_surveys.specs.Surveys.{seen as source_seen, IsRight}
+use Rattle.core_lowering_surveys.specs.Reasons.{declared_by, own_reason}
 
 -- the table is that of the units, the sources are those of their methods, and so are their extents and the reasons
 pub record IsKnown (table : Table) (units : List Unit) (of : List Surveyed) (why : List (Option Reason)) : Type 0 where

@@ -5,10 +5,10 @@ use Rattle.core_lowering_rules.specs.Programs.{sources_of}
 use Rattle.core_lowering_context.specs.declared.sources.Source.{Source}
 use Rattle.core_lowering_context.specs.Sources.{source_of}
 use Rattle.core_lowering_context.specs.Views.{folder_of}
-use Rattle.core_lowering.specs.Calls.{row_in}
+use Rattle.core_lowering_surveys.specs.Surveys.{row_in}
 use Rattle.core_lowering.specs.Parts.{parts_of, with_infos}
-use Rattle.core_lowering.specs.Reasons.{declared_by, own_reason}
-use Rattle.core_lowering.specs.Surveys.{seen}
+use Rattle.core_lowering_surveys.specs.Reasons.{declared_by, own_reason}
+use Rattle.core_lowering_surveys.specs.Surveys.{seen}
 use Rattle.core_lowering.proofs.SamePrograms.{rows-made}
 use Rattle.core_lowering.proofs.SameSources.{sources-made}
 use Rattle.core_lowering.proofs.programs.find_known.Goals as goal

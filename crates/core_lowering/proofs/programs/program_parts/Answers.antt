@@ -2,8 +2,8 @@ use Rattle.std.proofs.Common.{◌≡◌, map, ap, subst, ◌∙◌, IfOk, string
 use Rattle.core_code.specs.Chains.{flag_of}
 use Rattle.core_code.specs.Core.{Core, core_of}
 use Rattle.java_resolver.specs.Table.{classes, fields, methods}
-use Rattle.core_lowering.specs.Reasons.{with_recursive}
-use Rattle.core_lowering.specs.Surveys.{seen}
+use Rattle.core_lowering_surveys.specs.Reasons.{with_recursive}
+use Rattle.core_lowering_surveys.specs.Surveys.{seen}
 use Rattle.core_lowering.proofs.SamePrograms.{program-made}
 use Rattle.core_lowering.proofs.programs.program_parts.Goals as goal
 

@@ -4,7 +4,7 @@ use Rattle.std.proofs.lemmas.Slice.Zip.{zip_end}
 use Rattle.java_resolver.specs.declared.infos.MethodInfo.{MethodInfo}
 use Rattle.core_lowering.specs.declared.sources.Part.{Part}
 use Rattle.core_lowering.specs.Parts.{MethodPart, part_of, with_infos}
-use Rattle.core_lowering.proofs.Loops.{zip-ended}
+use Rattle.core_lowering_surveys.proofs.ZipLoops.{zip-ended}
 use Rattle.core_lowering.proofs.sources.with_infos.Goals as goal
 
 none-known : (parts : List MethodPart) → with_infos parts [] ≡ []

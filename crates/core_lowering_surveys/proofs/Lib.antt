@@ -1,0 +1,4 @@
+pub mod SameCounts
+pub mod Tallies
+pub mod ZipLoops
+pub mod MethodsMade

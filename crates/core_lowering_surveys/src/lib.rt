@@ -1,0 +1,16 @@
+//! What is known of the methods of a folder before it is known which are recursive, and the methods, once it is.
+//!
+//! A method is lowered twice. The first time none is analysed, and no code is kept: its calls and the reasons apart
+//! from recursion come of that, and so does the extent of its code, of which the limit is told. The second time is for
+//! the program, in which a method whose code is past the limit has none. Locals are the variables of the code that are
+//! neither `this` nor parameters.
+#![tactic(auto)]
+
+mod counts;
+mod methods;
+mod statuses;
+mod surveys;
+
+pub use methods::methods;
+pub use statuses::statuses;
+pub use surveys::{Surveyed, Surveys, find_surveys};
