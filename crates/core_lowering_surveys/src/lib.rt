@@ -7,10 +7,10 @@
 #![tactic(auto)]
 
 mod counts;
-mod methods;
-mod statuses;
+mod program_methods;
+mod reasons;
 mod surveys;
 
-pub use methods::methods;
-pub use statuses::statuses;
+pub use program_methods::methods;
+pub use reasons::statuses;
 pub use surveys::{Surveyed, Surveys, find_surveys};

@@ -13,7 +13,7 @@ ghost use Rattle.core_lowering_surveys.specs.Reasons.{declared_by, own_reason};
 ghost use Rattle.core_lowering_surveys.specs.Surveys.{row_in, seen, IsRight};
 
 use crate::counts::count_methods;
-use crate::statuses::first_reason;
+use crate::reasons::first_reason;
 use core_code::{Reason, all_callees};
 use core_lowering_context::Source;
 use core_lowering_methods::{Extent, survey_method};

@@ -14,7 +14,7 @@ use Rattle.core_lowering_context.specs.Views.{folder_of}
 use Rattle.core_lowering_surveys.specs.declared.surveys.Surveyed.{Surveyed}
 use Rattle.core_lowering_surveys.specs.Surveys.{seen, IsRight}
 use Rattle.core_lowering_surveys.proofs.ZipLoops.{zip-ended, zip-turn}
-use Rattle.core_lowering_surveys.proofs.methods.methods.Goals as goal
+use Rattle.core_lowering_surveys.proofs.program_methods.methods.Goals as goal
 
 no-statuses : (folder : Folder) (sources : List SeenSource) → method_cores folder sources [] ≡ []
 no-statuses folder [] = refl

@@ -4,7 +4,7 @@ use Rattle.core_lowering_context.specs.Views.{folder_of}
 use Rattle.core_lowering_surveys.specs.Entries.{is_entry_in}
 use Rattle.core_lowering_surveys.specs.Surveys.{seen}
 use Rattle.core_lowering_surveys.proofs.MethodsMade.{method-made}
-use Rattle.core_lowering_surveys.proofs.methods.method.Goals as goal
+use Rattle.core_lowering_surveys.proofs.program_methods.method.Goals as goal
 
 pub returns : goal.returns
 returns c =

@@ -3,7 +3,7 @@ use Rattle.core_code.specs.Core.{method_of}
 use Rattle.core_lowering_rules.specs.Programs.{method_cores}
 use Rattle.core_lowering_context.specs.Views.{folder_of}
 use Rattle.core_lowering_surveys.specs.Surveys.{seen}
-use Rattle.core_lowering_surveys.proofs.methods.methods.Given as goal
+use Rattle.core_lowering_surveys.proofs.program_methods.methods.Given as goal
 
 abbrev pub invariant-loop-one : goal.invariant-loop-one
 invariant-loop-one l =

@@ -2,7 +2,7 @@ use Rattle.std.proofs.Common.{Bool, false, None, Some, length, refl, sym, ap}
 use Rattle.std.specs.Prelude.{Option}
 use Rattle.std.proofs.lemmas.Option.{slice_get_past, slice_get_read}
 use Rattle.java_resolver.specs.declared.infos.ClassInfo.{ClassInfo}
-use Rattle.core_lowering_surveys.proofs.methods.is_checked.Goals as goal
+use Rattle.core_lowering_surveys.proofs.program_methods.is_checked.Goals as goal
 
 abbrev is_read : Option ClassInfo → Bool
 is_read None = false

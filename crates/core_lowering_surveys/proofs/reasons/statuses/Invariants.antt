@@ -1,7 +1,7 @@
 use Rattle.std.proofs.Common.{◌≡◌, ◌++◌, drop}
 use Rattle.core_code.specs.Chains.{flag_of}
 use Rattle.core_lowering_surveys.specs.Reasons.{with_recursive}
-use Rattle.core_lowering_surveys.proofs.statuses.statuses.Given as goal
+use Rattle.core_lowering_surveys.proofs.reasons.statuses.Given as goal
 
 abbrev pub invariant-loop-index : goal.invariant-loop-index
 invariant-loop-index l =
