@@ -1,21 +1,10 @@
 """The forms of Java in a method that racer does not read, by tokens alone: why a method is `outside`."""
-import re
 
-NAME = re.compile(rb"[A-Za-z_$\x80-\xff][\w$\x80-\xff]*")
 CLOSING = {b"(": b")", b"[": b"]", b"{": b"}"}
 
-# Words that are such a form by themselves.
-WORDS = {
-    b"super": "super",
-    b"->": "lambda",
-    b"::": "method reference",
-    b"enum": "local class",
-    b"interface": "local class",
-}
 # The order in which they are told.
 UNLOCK = "unlock in a finally"
-ORDER = (UNLOCK, "lambda", "method reference", "anonymous class", "local class", "super", "this(..)",
-         "varargs", "type parameters", "native", "other")
+ORDER = (UNLOCK, "super", "this(..)", "new behind a point", "native", "other")
 
 
 def closed(tokens, i):
@@ -28,18 +17,27 @@ def closed(tokens, i):
     return len(tokens)
 
 
-def has_anonymous(tokens):
-    """Whether a class without a name is made."""
-    for i, token in enumerate(tokens):
-        if token != b"new":
-            continue
-        while i < len(tokens) and tokens[i] not in (b"(", b"[", b";", b"{"):
-            i += 1
-        if i < len(tokens) and tokens[i] == b"(":
-            behind = closed(tokens, i)
-            if behind < len(tokens) and tokens[behind] == b"{":
-                return True
+def opens_body(tokens, i):
+    """Whether the brace here opens the body of a lambda, of a class without a name or of a local class."""
+    if i > 0 and tokens[i - 1] == b"->":
+        return True
+    k, depth = i - 1, 0
+    while k >= 0 and (depth > 0 or tokens[k] not in (b";", b"{", b"}", b"(", b"=")):
+        if depth == 0 and tokens[k] in (b"class", b"new"):
+            return tokens[k - 1 : k] != [b"."] and (tokens[k] == b"class" or tokens[i - 1] == b")")
+        depth += (tokens[k] in (b")", b"]")) - (tokens[k] in (b"(", b"["))
+        k -= 1
     return False
+
+
+def read_tokens(tokens):
+    """The tokens of a method without the bodies that are passed over."""
+    left, i = [], 0
+    while i < len(tokens):
+        i = closed(tokens, i) if tokens[i] == b"{" and opens_body(tokens, i) else i
+        left += tokens[i : i + 1]
+        i += 1
+    return left
 
 
 def has_unlock(tokens):
@@ -57,24 +55,18 @@ def stands(tokens, first, second):
     return any(token == first and tokens[i + 1] == second for i, token in enumerate(tokens[:-1]))
 
 
-def forms_of(tokens, parameters, body, modifiers):
-    """The forms in a method that racer does not read, from the token behind its modifiers on: its parameters begin at
-    one place and end at the other. Nothing that is found here is proved to be why a method is `outside`."""
-    words = set(tokens)
-    found = {WORDS[word] for word in words.intersection(WORDS)}
-    inside = tokens[body + 1 :]
-    if b"new" in words and has_anonymous(inside):
-        found.add("anonymous class")
-    if b"class" in inside and any(token == b"class" and inside[i - 1] != b"." for i, token in enumerate(inside)):
-        found.add("local class")
-    if b"finally" in words and has_unlock(inside):
+def forms_of(tokens, body, modifiers):
+    """The forms in a method that racer does not read, from the token behind its modifiers on: its parameters end at
+    this place. Nothing that is found here is proved to be why a method is `outside`."""
+    found, inside = set(), read_tokens(tokens[body + 1 :])
+    if any(token == b"super" and inside[i + 1 : i + 2] != [b"::"] for i, token in enumerate(inside)):
+        found.add("super")
+    if has_unlock(inside):
         found.add(UNLOCK)
-    if b"this" in words and stands(inside, b"this", b"("):
+    if stands(inside, b"this", b"("):
         found.add("this(..)")
-    if tokens[:1] == [b"<"]:
-        found.add("type parameters")
-    if stands(tokens[parameters:body], b".", b"."):
-        found.add("varargs")
+    if stands(inside, b".", b"new"):
+        found.add("new behind a point")
     if not {"native", "default"}.isdisjoint(modifiers):
         found.add("native")
     return sorted(found, key=ORDER.index)

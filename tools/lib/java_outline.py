@@ -150,7 +150,7 @@ class Outline:
         if not NAME.fullmatch(self.tokens[i - 1]):
             return None
         name = self.tokens[i - 1].decode("utf-8", "replace")
-        forms = forms_of(self.tokens[head:end], i - head, self.partners[i] - head, modifiers)
+        forms = forms_of(self.tokens[head:end], self.partners[i] - head, modifiers)
         count, why = self.commas(i, self.partners[i]), suppression(annotations)
         return Method(name, count, modifiers, self.places[i - 1], forms, why)
 

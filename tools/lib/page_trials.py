@@ -54,7 +54,7 @@ def report(files):
         outside = {**side(file, 1), "at": [f"{file}:1:1"]}
         found.append({**outside, "mark": {"word": "unnamed"}, "with": outside})
     left = [{"method": f"{NAME}.lost<script>/2", "place": f"{files[0]}:1:1", "reason": EVIL}]
-    counts = {"classes": 1, "files": len(files), "methods": 3, "profile": 4}
+    counts = {"classes": 1, "files": len(files), "methods": 3, "profile": 5}
     return {**counts, "not_analysed": left, "skipped": [f"{files[0]}:2:3"], "warnings": found}
 
 
@@ -102,7 +102,7 @@ class Desk {
   void help(int a, int b) {
     if (a > 0 && b > 0) { open = 1; }
   }
-  void lost() { held = () -> open = 2; }
+  void lost() { held = super.toString(); }
   void both() { lost(); open = 3; }
   void none() { next.open = 4; }
   void left(int a) { while (a > 0) { if (a > 1) break; a--; } try { if (a < 0) return; } finally { open = 5; } }
@@ -112,7 +112,7 @@ TOLD = (
     "R Desk.java:6:9 (a &gt; 0) &amp;&amp;: does not hold",
     "L Desk.java:6:9 if (a &gt; 0 &amp;&amp; b &gt; 0): holds, against the turns in it",
     "These turns contradict one another",
-    "Desk.lost/0 (outside, for lambda) is not read",
+    "Desk.lost/0 (outside, for super) is not read",
     "next is null there, or from outside",
     "R Desk.java:11:29 while (a &gt; 0): no more whole round; the next one may end by a jump",
     "L Desk.java:11:29 while (a &gt; 0): holds",
@@ -137,5 +137,5 @@ def desk():
     marks.append(("none/0", "10:22", {"word": "blocked", "place": "Desk.java:10:22", "thread": 0}))
     found = [{**side_of(name, at), "mark": mark, "with": side_of(name, at)} for name, at, mark in marks]
     left = [{"method": "Desk.lost/0", "place": "Desk.java:8:8", "reason": "outside"}]
-    counts = {"classes": 1, "files": 1, "methods": 6, "profile": 4, "skipped": []}
+    counts = {"classes": 1, "files": 1, "methods": 6, "profile": 5, "skipped": []}
     return {**counts, "not_analysed": left, "warnings": found}

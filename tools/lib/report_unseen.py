@@ -101,19 +101,6 @@ class Reach:
             yield f"methods outside, by what alone is not read in them: {', '.join(told)}"
 
 
-# Forms that come together: who reads one of them mostly wants the others.
-TOGETHER = (
-    ({"lambda", "method reference"}, "lambda or method reference"),
-    ({"anonymous class", "local class", "super"}, "inner class or super"),
-)
-
-
 def grouped(words):
-    """What alone is not read, by words of forms: a form, some that come together, or several."""
-    found = set(words.split(", "))
-    if len(found) == 1 and not any(found <= group for group, _ in TOGETHER):
-        return words
-    for group, name in TOGETHER:
-        if found <= group:
-            return name
-    return "several forms"
+    """What alone is not read, by words of forms: a form, or several."""
+    return "several forms" if ", " in words else words

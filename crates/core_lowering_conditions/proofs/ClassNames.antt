@@ -7,9 +7,9 @@ use Rattle.std.proofs.lemmas.List.{append-nil}
 use Rattle.java_lexer.specs.declared.token.Token.{Token}
 use Rattle.java_lexer.specs.declared.token.TokenKind.{TokenKind}
 use Rattle.java_lexer.specs.declared.token.TokenKind.TheVariants as kind
-use Rattle.java_tree.specs.Formed.{Each}
+use Rattle.java_tree.specs.FormedModifiers.{Each}
 use Rattle.java_tree.specs.Brackets.{is_sign_kind}
-use Rattle.java_parser_grammar.specs.Taking.{is_keyword_kind}
+use Rattle.java_tree.specs.Brackets.{is_keyword_kind}
 use Rattle.java_parser_grammar.specs.Tokens.{is_name, begins, begins_sign, begins_word}
 use Rattle.java_parser_grammar.specs.Cuts.{joined}
 use Rattle.java_parser_grammar.specs.Pieces.{Item, Piece, cut_pieces, is_annotation}

@@ -2,7 +2,7 @@
 use Rattle.std.proofs.Common.{◌≡◌, ℕ, Bool, true, false, List, [], ◌∷◌, ◌++◌, refl, ap, sym, ◌∙◌, arith}
 use Rattle.std.specs.Prelude.{◌==◌}
 use Rattle.java_lexer.specs.declared.token.Token.{Token}
-use Rattle.java_tree.specs.Formed.{Each}
+use Rattle.java_tree.specs.FormedModifiers.{Each}
 use Rattle.java_parser_grammar.specs.Cuts.{with_cut, joined}
 use Rattle.java_parser_grammar.specs.Brackets.{depth_behind}
 use Rattle.java_parser_grammar.specs.Pieces.{Item, items_from, items_of}

@@ -9,9 +9,9 @@ use Rattle.java_tree.specs.declared.methods.FieldTree.{FieldTree}
 use Rattle.java_tree.specs.declared.methods.FieldVariable.{FieldVariable}
 use Rattle.java_tree.specs.declared.methods.FieldInitialiser.{FieldInitialiser}
 use Rattle.java_tree.specs.declared.methods.FieldInitialiser.TheVariants.{Absent, Formed, Unread}
-use Rattle.java_tree.specs.Formed.{Each}
-use Rattle.java_tree.specs.KeptPlaces.{kept, is_kept}
-use Rattle.java_tree.specs.MethodPlaces.{Marks, AreAt, method_marks}
+use Rattle.java_tree.specs.FormedModifiers.{Each}
+use Rattle.java_tree.specs.KeptPlaces.{Marks, AreAt, kept, is_kept, init_places}
+use Rattle.java_tree.specs.MethodPlaces.{method_marks}
 use Rattle.java_tree.specs.declared.unit.Member.{Member}
 use Rattle.java_tree.specs.declared.unit.Member.TheVariants as member
 use Rattle.java_parser_grammar.specs.Tokens.{is_sign_token, is_name, begins_sign}
@@ -118,7 +118,7 @@ module _ (n : ℕ) where
   initialiser_in [] (Formed i) h b = absurd b
   initialiser_in [] Unread h b = tt
   initialiser_in (e ∷ ts) Absent h b = tt
-  initialiser_in (e ∷ ts) (Formed i) h b = subst (Each (IsIn n)) (sym b.2) (kept_in ts h.1)
+  initialiser_in (e ∷ ts) (Formed i) h b = marks_in (init_places i []) (kept ts) b.2 (kept_in ts h.1)
   initialiser_in (e ∷ ts) Unread h b = tt
 
   variable_in : (ts : List Token) (v : FieldVariable) → Each (StandsIn n) ts → IsVariable ts v

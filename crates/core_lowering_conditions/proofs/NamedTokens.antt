@@ -30,7 +30,7 @@ use Rattle.java_lexer.specs.JavaTokens.{angle_tokens, one_token, token_of, java_
 use Rattle.java_lexer.specs.JavaTokens.{lexed_answer}
 use Rattle.java_lexer.proofs.Calm.{nil_kind}
 use Rattle.java_lexer.proofs.OneDivision.{pieces_divide}
-use Rattle.java_tree.specs.Formed.{Each}
+use Rattle.java_tree.specs.FormedModifiers.{Each}
 use Rattle.core_code.specs.Names.{is_identifier}
 use Rattle.core_lowering_conditions.proofs.Parts.{each_append}
 

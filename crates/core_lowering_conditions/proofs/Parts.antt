@@ -1,7 +1,7 @@
 -- What holds of each token of a list holds of each token of its parts.
 use Rattle.std.proofs.Common.{◌≡◌, ℕ, zero, suc, Bool, true, false, cond, List, [], ◌∷◌, ◌++◌, map, filter, take}
 use Rattle.std.proofs.Common.{sym, subst}
-use Rattle.java_tree.specs.Formed.{Each}
+use Rattle.java_tree.specs.FormedModifiers.{Each}
 use Rattle.java_parser_grammar.specs.Cuts.{joined}
 
 module _ {A : Type 0} (P : A → Type 0) where

@@ -23,7 +23,7 @@ use Rattle.java_lexer.specs.Tokens.{tokens_from}
 use Rattle.java_lexer.specs.JavaKinds.{java_lexis}
 use Rattle.java_lexer.specs.JavaTokens.{angle_tokens, one_token, token_of, java_tokens_of, divided_answer}
 use Rattle.java_lexer.specs.JavaTokens.{lexed_answer}
-use Rattle.java_tree.specs.Formed.{Each}
+use Rattle.java_tree.specs.FormedModifiers.{Each}
 use Rattle.core_lowering_conditions.proofs.Parts.{each_append}
 
 abbrev pub IsIn : ℕ → Place → Type 0

@@ -8,7 +8,7 @@ use Rattle.racer_base.specs.declared.ids.ClassId.{ClassId}
 use Rattle.java_lexer.specs.declared.token.Token.{Token}
 use Rattle.java_tree.specs.declared.methods.FieldTree.{FieldTree}
 use Rattle.java_tree.specs.declared.methods.FieldVariable.{FieldVariable}
-use Rattle.java_tree.specs.Formed.{Each}
+use Rattle.java_tree.specs.FormedModifiers.{Each}
 use Rattle.java_tree.specs.declared.unit.ClassTree.{ClassTree}
 use Rattle.java_tree.specs.declared.unit.Member.{Member}
 use Rattle.java_tree.specs.declared.unit.Member.TheVariants as member

@@ -6,7 +6,7 @@ use Rattle.std.proofs.lemmas.Bool.{lt-ltb, and_from}
 use Rattle.std.specs.List.{AllZip, flat_map, list_all}
 use Rattle.racer_base.specs.declared.ids.Place.{Place}
 use Rattle.java_lexer.specs.declared.token.Token.{Token}
-use Rattle.java_tree.specs.Formed.{Each}
+use Rattle.java_tree.specs.FormedModifiers.{Each}
 use Rattle.java_tree.specs.declared.unit.ClassTree.{ClassTree}
 use Rattle.java_tree.specs.declared.unit.Member.{Member}
 use Rattle.java_tree.specs.declared.unit.Unit as unit

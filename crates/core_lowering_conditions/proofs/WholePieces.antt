@@ -5,7 +5,7 @@ use Rattle.std.proofs.Common.{codes, arith}
 use Rattle.std.specs.Prelude.{◌==◌, if◌then◌else◌}
 use Rattle.std.proofs.lemmas.Bool.{true≢false}
 use Rattle.java_lexer.specs.declared.token.Token.{Token}
-use Rattle.java_tree.specs.Formed.{Each, has_some}
+use Rattle.java_tree.specs.FormedModifiers.{Each, has_some}
 use Rattle.java_tree.specs.declared.words.Spelled.{Spelled}
 use Rattle.java_tree.specs.Brackets.{is_sign}
 use Rattle.java_parser_grammar.proofs.Taken.{sign_is}

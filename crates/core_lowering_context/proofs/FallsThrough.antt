@@ -1,5 +1,5 @@
 -- Whether there is no end but the normal one depends on the members of a set alone.
-use Rattle.std.proofs.Common.{◌≡◌, ℕ, Bool, true, false, not, ◌&&◌, ◌||◌, cond, List, [], ◌∷◌, ◌++◌, refl, sym, ap, ◌∙◌}
+use Rattle.std.proofs.Common.{◌≡◌, ℕ, Bool, true, false, not, ◌&&◌, ◌||◌, cond, [], ◌∷◌, ◌++◌, refl, sym, ap, ◌∙◌}
 use Rattle.std.specs.List.{list_any, list_all}
 use Rattle.core_lowering_drafts.specs.Drafts.{End, Ends, Normal, SameEnds, is_same, Behind, in_order}
 use Rattle.core_lowering_drafts.proofs.SameEnds.{any-same}

@@ -12,14 +12,15 @@ use Rattle.core_lowering_rules.specs.Methods.{Source, entered, parameters_declar
 use Rattle.core_lowering_context.specs.Views.{folder_of}
 
 -- where a method of a class begins, before its parameters
-abbrev pub entered_in : Table → List (Option Reason) → Place → Result → Kind → ClassId → (is_static : Bool) → Context
-entered_in table statuses place result given class is_static =
+abbrev pub entered_in : Table → List (Option Reason) → Place → Result → Kind → ClassId → (is_static : Bool) →
+    (hidden : List (List ℕ)) → Context
+entered_in table statuses place result given class is_static hidden =
     record {
       folder = folder_of table statuses;
       place = place;
       result = result;
       given = given;
-      scope = record { class = class; is_static = is_static; variables = [] };
+      scope = record { class = class; is_static = is_static; hidden = hidden; variables = [] };
       kinds = if is_static then [] else Declared class ∷ [];
       exits = 0;
       labels = [];

@@ -1,5 +1,5 @@
 -- A contract of a public call rests on this: what is seen of exits and of where returns lead.
-use Rattle.std.specs.Prelude.{ℕ, Bool, ◌&&◌, is_some, List, Option, None, Some, map, reverse, option_map}
+use Rattle.std.specs.Prelude.{ℕ, Bool, ◌&&◌, is_some, List, Option, map, reverse, option_map}
 use Rattle.racer_base.specs.declared.ids.VarId.{VarId}
 use Rattle.core_lowering_drafts.specs.declared.ends.Exit.{Exit}
 use Rattle.core_lowering_rules.specs.Context.{Guard, Target}

@@ -1,23 +1,26 @@
--- No public contract rests on this: the variables in scope, found by their names.
+-- A contract of a public call rests on this: the variables in scope, found by their names.
 use Rattle.std.specs.Prelude.{◌≡◌, ℕ, ◌-◌, Bool, List, [], ◌∷◌, Option, Some, None, Vec, String, bytes_eq, map, take}
 use Rattle.std.specs.Prelude.{length, if◌then◌else◌}
 use Rattle.std.specs.BTreeMap.{BTreeMap, get_by_text}
 use Rattle.std.specs.Global.{Global}
 use Rattle.std.specs.List.{filter}
 use Rattle.std.specs.Option.{option_or}
-use Rattle.racer_base.specs.declared.ids.Kind.{Kind}
 use Rattle.racer_base.specs.declared.ids.VarId.{VarId}
 use Rattle.java_resolver.specs.declared.scope.ScopeVariable.{ScopeVariable}
+use Rattle.java_resolver.specs.declared.scope.VariableKind.{VariableKind}
 
-abbrev pub variable : (name : List ℕ) → VarId → Kind → ScopeVariable
-variable name id kind = record { name = name; id = id; kind = kind }
+abbrev pub variable : (name : List ℕ) → VarId → VariableKind → ScopeVariable
+variable name id known = record { name = name; id = id; kind = known.kind; is_lock = known.is_lock }
 
--- the number and the kind of a variable
+abbrev pub known_of : ScopeVariable → VariableKind
+known_of v = record { kind = v.kind; is_lock = v.is_lock }
+
+-- the number of a variable, and what is known of it
 abbrev pub Seen : Type 0
-Seen = VarId × Kind
+Seen = VarId × VariableKind
 
 abbrev pub seen : ScopeVariable → Seen
-seen v = (v.id, v.kind)
+seen v = (v.id, known_of v)
 
 -- the variables of each name, the innermost last
 abbrev pub ByName : Type 0

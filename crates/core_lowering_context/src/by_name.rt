@@ -2,12 +2,13 @@
 ghost use Rattle.std.specs.Prelude.{◌≡◌, List, ℕ, [], ◌∷◌, ◌++◌, OnOk};
 ghost use Rattle.core_lowering_context.specs.Seen.{seen_at, last_of, front_of, ChangesAt};
 
-use racer_base::{Kind, Memory, VarId};
+use java_resolver::VariableKind;
+use racer_base::{Memory, VarId};
 use std::alloc::Global;
 use std::collections::BTreeMap;
 
-/// The numbers and kinds of the variables of each name, the innermost last.
-pub type ByName = BTreeMap<String, Vec<(VarId, Kind)>>;
+/// The numbers of the variables of each name, with what is known of them, the innermost last.
+pub type ByName = BTreeMap<String, Vec<(VarId, VariableKind)>>;
 
 /// No variables.
 pub fn no_names(alloc: Global) -> ByName
@@ -17,14 +18,14 @@ pub fn no_names(alloc: Global) -> ByName
 }
 
 /// The last of these.
-fn last_of(all: &[(VarId, Kind)]) -> Option<(VarId, Kind)>
+fn last_of(all: &[(VarId, VariableKind)]) -> Option<(VarId, VariableKind)>
     ensures { result ≡ last_of all.now }
 {
     all.last().copied()
 }
 
 /// The innermost variable of a name.
-pub fn last_seen(index: &ByName, name: &str) -> Option<(VarId, Kind)>
+pub fn last_seen(index: &ByName, name: &str) -> Option<(VarId, VariableKind)>
     ensures { result ≡ last_of (seen_at index.now name.now) }
 {
     match index.get(name) {
@@ -34,10 +35,10 @@ pub fn last_seen(index: &ByName, name: &str) -> Option<(VarId, Kind)>
 }
 
 /// Puts a variable at the end.
-fn push(all: &mut Vec<(VarId, Kind)>, id: VarId, kind: Kind) -> Result<(), Memory>
-    ensures { OnOk result (all.new.items ≡ all.old.items ++ (id, kind) ∷ []) }
+fn push(all: &mut Vec<(VarId, VariableKind)>, id: VarId, known: VariableKind) -> Result<(), Memory>
+    ensures { OnOk result (all.new.items ≡ all.old.items ++ (id, known) ∷ []) }
 {
-    all.push((id, kind))?;
+    all.push((id, known))?;
     Ok(())
 }
 
@@ -47,21 +48,21 @@ pub fn add(
     index: &mut ByName,
     name: &str,
     id: VarId,
-    kind: Kind,
+    known: VariableKind,
 ) -> Result<(), Memory>
-    ensures { OnOk result (ChangesAt index.old index.new name.now (seen_at index.old name.now ++ (id, kind) ∷ [])) }
+    ensures { OnOk result (ChangesAt index.old index.new name.now (seen_at index.old name.now ++ (id, known) ∷ [])) }
 {
     if let Some(all) = index.get_mut(name) {
-        return push(all, id, kind);
+        return push(all, id, known);
     }
     let mut all = Vec::new(alloc);
-    push(&mut all, id, kind)?;
+    push(&mut all, id, known)?;
     index.insert(String::from_str(alloc, name)?, all)?;
     Ok(())
 }
 
 /// Takes the last one, if there is one.
-fn pop(all: &mut Vec<(VarId, Kind)>)
+fn pop(all: &mut Vec<(VarId, VariableKind)>)
     ensures { all.new.items ≡ front_of all.old.items }
 {
     all.truncate(all.len().saturating_sub(1));

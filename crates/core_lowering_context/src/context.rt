@@ -1,17 +1,19 @@
 //! What an expression or a statement stands in.
-ghost use Rattle.std.specs.Prelude.{◌≡◌, ◌++◌, length, OnOk, OnErr, IfOk, option_copied};
+ghost use Rattle.std.specs.Prelude.{◌≡◌, ◌++◌, length, OnOk, OnErr, IfOk, option_copied, option_map};
 ghost use Rattle.racer_base.specs.declared.ids.Kind.{Kind};
 ghost use Rattle.java_tree.specs.View.{ty_of};
 ghost use Rattle.java_resolver.specs.Declarations.{class_names};
-ghost use Rattle.java_resolver.specs.Meanings.{field_named, found};
-ghost use Rattle.java_resolver.specs.TypeKinds.{class_named};
+ghost use Rattle.java_resolver.specs.Meanings.{field_named, found, variable_named};
+ghost use Rattle.java_resolver.specs.TypeKinds.{class_seen};
 ghost use Rattle.core_lowering_rules.specs.Context.{Code, op, converted, push_this, push_owner, meaning_of};
-ghost use Rattle.core_lowering_rules.specs.Context.{type_kind, is_analysed};
+ghost use Rattle.core_lowering_rules.specs.Context.{type_kind, variable_kind_in, is_analysed};
+ghost use Rattle.core_lowering_rules.specs.Methods.{outside_methods};
 ghost use Rattle.core_lowering_rules.specs.Assignments.{field_at};
 ghost use Rattle.core_lowering_rules.specs.Calls.{info_at};
 ghost use Rattle.core_lowering_rules.specs.Scopes.{declared, next_variable, is_closed_by};
 ghost use Rattle.core_lowering_context.specs.Drafts.{code_of};
 ghost use Rattle.core_lowering_context.specs.Restored.{variables_from, with_apart, with_closing};
+ghost use Rattle.core_lowering_context.specs.Seen.{known_of};
 ghost use Rattle.core_lowering_context.specs.Views.{value_kind, given_of};
 ghost use Rattle.core_lowering_context.specs.Beginning.{entered_in, left_at, with_other_lock};
 
@@ -22,14 +24,14 @@ use crate::targets::{Guard, Target};
 use crate::value_kind::{ValueKind, is_converted};
 use crate::variables::Variables;
 use core_code::{Op, Reason};
-use java_resolver::{FieldInfo, Meaning, MethodInfo, Table};
+use java_resolver::{FieldInfo, Hidden, Meaning, MethodInfo, Table, VariableKind};
 use java_tree::{Ident, TypeTree};
 use racer_base::{ClassId, FieldId, Items, Kind, Memory, MethodId, Place, Text, VarId};
 use std::alloc::Global;
 use std::marker::Model;
 
-/// The folder and why its methods are not analysed; of the method its place, what it gives, its class and whether it is
-/// static; the variables in scope; the kinds of all variables so far; how many exits are open; the labels of the
+/// The folder and why its methods are not analysed; of the method its place, what it gives, its class, whether it is
+/// static and which names mean no class in it; the variables in scope; the kinds of all variables so far; how many exits are open; the labels of the
 /// statement that comes, where jumps and where returns lead, the innermost last; whether a lock so far is that of no
 /// lock field, and whether something so far sets the method apart.
 #[derive(Drop)]
@@ -41,6 +43,7 @@ pub struct Context<'a> {
     pub(crate) given: Kind,
     class: ClassId,
     is_static: bool,
+    hidden: Option<&'a Hidden>,
     pub(crate) variables: Variables,
     pub(crate) kinds: Vec<Kind>,
     pub(crate) exits: u32,
@@ -52,7 +55,8 @@ pub struct Context<'a> {
 }
 
 impl<'a> Model for Context<'a> {
-    ghost use Rattle.std.specs.Prelude.{reverse};
+    ghost use Rattle.std.specs.Prelude.{reverse, option_copied};
+    ghost use Rattle.java_resolver.specs.Hidden.{hidden_by};
     ghost use Rattle.core_lowering_rules.specs.Context.{Context};
     ghost use Rattle.core_lowering_context.specs.Exits.{guards_seen};
     ghost use Rattle.core_lowering_context.specs.Views.{folder_of, given_of};
@@ -64,7 +68,12 @@ impl<'a> Model for Context<'a> {
       place = context.place;
       result = given_of context.result;
       given = context.given;
-      scope = record { class = context.class; is_static = context.is_static; variables = context.variables };
+      scope = record {
+        class = context.class;
+        is_static = context.is_static;
+        hidden = hidden_by (option_copied context.hidden);
+        variables = context.variables;
+      };
       kinds = context.kinds.items;
       exits = context.exits;
       labels = reverse context.labels.items;
@@ -86,9 +95,10 @@ impl<'a> Context<'a> {
         given: Kind,
         class: ClassId,
         is_static: bool,
+        hidden: &'a Hidden,
     ) -> Result<Context<'a>, Memory>
         ensures { IfOk result (λ context. context
-            ≡ entered_in table.now statuses.now place (given_of method_result) given class is_static) }
+            ≡ entered_in table.now statuses.now place (given_of method_result) given class is_static hidden.now) }
     {
         let mut kinds = Vec::new(alloc);
         if !is_static {
@@ -102,6 +112,7 @@ impl<'a> Context<'a> {
             given,
             class,
             is_static,
+            hidden: Some(hidden),
             variables: Variables::new(alloc),
             kinds,
             exits: 0,
@@ -131,15 +142,22 @@ impl<'a> Context<'a> {
     pub fn type_kind(&self, t: &TypeTree) -> Kind
         ensures { result ≡ type_kind self.now (ty_of t.now) }
     {
-        self.table.type_kind(t)
+        self.table.type_kind(self.hidden, t)
+    }
+
+    /// What is known of a variable of this type with so many `[ ]` behind its name.
+    pub fn variable_kind(&self, t: &TypeTree, further: u32) -> VariableKind
+        ensures { result ≡ variable_kind_in self.now (ty_of t.now) further }
+    {
+        self.table.variable_kind(self.hidden, t, further)
     }
 
     /// What a simple name means there (JLS 6.5).
     pub fn meaning(&self, x: &Ident) -> Meaning
         ensures { result ≡ meaning_of self.now x.now }
     {
-        if let Some((v, kind)) = self.variables.named(x.text.as_str()) {
-            return Meaning::Variable(v, kind);
+        if let Some((v, known)) = self.variables.named(x.text.as_str()) {
+            return Meaning::Variable(v, known.kind);
         }
         if let Some(f) = self
             .table
@@ -147,7 +165,7 @@ impl<'a> Context<'a> {
         {
             return Meaning::Field(f);
         }
-        match self.table.class_named(x.text.as_str()) {
+        match self.class_named(x) {
             Some(c) => Meaning::Class(c),
             None => Meaning::Opaque,
         }
@@ -190,10 +208,18 @@ impl<'a> Context<'a> {
     }
 
     /// The class of a name.
-    pub fn class_named(&self, name: &str) -> Option<ClassId>
-        ensures { result ≡ class_named (class_names self.now.folder.classes) name.now }
+    pub fn class_named(&self, x: &Ident) -> Option<ClassId>
+        ensures { result ≡ class_seen self.now.scope.hidden (class_names self.now.folder.classes) x.now.text }
     {
-        self.table.class_named(name)
+        self.table.class_named(self.hidden, x.text.as_str())
+    }
+
+    /// What is known of the variable that a name means.
+    pub fn variable(&self, x: &Ident) -> Option<VariableKind>
+        ensures { result ≡ option_map known_of (variable_named self.now.scope x.now.text) }
+    {
+        let (_, known) = self.variables.named(x.text.as_str())?;
+        Some(known)
     }
 
     /// The field of a class by its name; where a static one is asked for, a static one.
@@ -203,7 +229,8 @@ impl<'a> Context<'a> {
         self.table.field_named(c, in_static, x.text.as_str())
     }
 
-    /// The method or constructor of a class by its name, `<new>` for a constructor, and its number of parameters.
+    /// The method or constructor of a class that a call of its name, `<new>` for a constructor, with so many arguments
+    /// means.
     pub fn find(&self, c: ClassId, name: &str, count: u32) -> Option<MethodId>
         ensures { result ≡ found self.now.folder.methods c name.now count }
     {
@@ -262,14 +289,20 @@ impl<'a> Context<'a> {
     }
 
     /// Declares a variable, which is in scope now.
-    pub fn declare(&mut self, alloc: Global, kind: Kind, name: &Ident) -> Result<VarId, Memory>
+    pub fn declare(
+        &mut self,
+        alloc: Global,
+        known: VariableKind,
+        name: &Ident,
+    ) -> Result<VarId, Memory>
         ensures variable { IfOk result (λ v. v ≡ next_variable self.old) }
-        ensures context { OnOk result (self.new ≡ declared self.old kind name.now) }
+        ensures context { OnOk result (self.new ≡ declared self.old known name.now) }
         ensures err { OnErr result (left_at 0 self.new ≡ left_at 0 self.old) }
     {
         let id = VarId(number_of(self.kinds.len())?);
-        self.variables.declare(alloc, name.text.as_str(), id, kind)?;
-        self.kinds.push(kind)?;
+        self.variables
+            .declare(alloc, name.text.as_str(), id, known)?;
+        self.kinds.push(known.kind)?;
         Ok(id)
     }
 
@@ -285,6 +318,14 @@ impl<'a> Context<'a> {
         ensures { self.new ≡ left_at at self.old }
     {
         self.variables.leave(at);
+    }
+
+    /// Stands in no method, where its fields begin.
+    pub fn leave_method(&mut self)
+        ensures { self.new ≡ outside_methods self.old }
+    {
+        self.variables.leave(0);
+        self.hidden = None;
     }
 
     /// Notes that a lock is that of no lock field.
@@ -334,7 +375,7 @@ impl<'a> Context<'a> {
         ensures { result ≡ is_closed_by self.now kind }
     {
         match kind {
-            Kind::Declared(c) => self.find(c, "close", 0).is_some(),
+            Kind::Declared(c) => self.table.find_exactly(c, "close", 0).is_some(),
             Kind::Plain => false,
             Kind::Other => false,
         }

@@ -1,5 +1,8 @@
 //! Where the code of a method begins.
 ghost use Rattle.std.specs.Prelude.{◌≡◌, OnOk, IfOk};
+ghost use Rattle.java_tree.specs.View.{ty_of};
+ghost use Rattle.java_resolver.specs.Declarations.{further_arrays};
+ghost use Rattle.core_lowering_rules.specs.Scopes.{of_type};
 ghost use Rattle.core_lowering_rules.specs.Methods.{entered, parameters_declared, result_of, result_of_tree};
 ghost use Rattle.core_lowering_context.specs.Beginning.{inside};
 ghost use Rattle.core_lowering_context.specs.Sources.{body_of, source_of};
@@ -41,7 +44,7 @@ pub fn enter<'a>(
     alloc: Global,
     table: &'a Table,
     statuses: &'a [Option<Reason>],
-    source: &Source,
+    source: &Source<'a>,
 ) -> Result<Context<'a>, Memory>
     ensures { IfOk result (λ context. context ≡ entered (folder_of table.now statuses.now) (source_of source.now)) }
 {
@@ -56,7 +59,33 @@ pub fn enter<'a>(
         info.result,
         info.class,
         info.is_static,
+        &info.hidden,
     )
+}
+
+/// How many `[ ]` a parameter has besides those of its type, `...` being one of them.
+fn further_arrays(parameter: &ParameterTree) -> Result<u32, Memory>
+    ensures { IfOk result (λ further. further ≡ further_arrays parameter.now) }
+{
+    if parameter.any_number {
+        parameter.arrays.checked_add(1).ok_or(Memory)
+    } else {
+        Ok(parameter.arrays)
+    }
+}
+
+fn declare_parameter(
+    alloc: Global,
+    context: &mut Context,
+    parameter: &ParameterTree,
+) -> Result<(), Memory>
+    ensures { OnOk result (context.new
+        ≡ of_type context.old (ty_of parameter.now.kind) (further_arrays parameter.now) parameter.now.name) }
+{
+    let further = further_arrays(parameter)?;
+    let known = context.variable_kind(&parameter.kind, further);
+    context.declare(alloc, known, &parameter.name)?;
+    Ok(())
 }
 
 fn declare_parameters(
@@ -67,8 +96,7 @@ fn declare_parameters(
     ensures { OnOk result (context.new ≡ parameters_declared context.old parameters.now) }
 {
     for parameter in parameters {
-        let kind = context.type_kind(&parameter.kind);
-        context.declare(alloc, kind, &parameter.name)?;
+        declare_parameter(alloc, context, parameter)?;
     }
     Ok(())
 }
@@ -78,7 +106,7 @@ pub fn enter_spelled<'a>(
     alloc: Global,
     table: &'a Table,
     statuses: &'a [Option<Reason>],
-    source: &Source,
+    source: &Source<'a>,
     m: &MethodTree,
 ) -> Result<Context<'a>, Memory>
     ensures { IfOk result (λ context. context

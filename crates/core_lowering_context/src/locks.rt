@@ -1,5 +1,6 @@
-//! Which locks are those of lock fields.
+//! Which locks are those of lock fields, or of variables that hold one lock throughout a block.
 ghost use Rattle.std.specs.Prelude.{◌≡◌, Some, option_copied};
+ghost use Rattle.core_lowering_rules.specs.Context.{meaning_of};
 ghost use Rattle.core_lowering_rules.specs.TreesOf.{expr_of};
 ghost use Rattle.core_lowering_rules.specs.Locks as wanted;
 
@@ -18,18 +19,28 @@ fn is_lock_field(context: &Context, f: FieldId) -> bool
     }
 }
 
-/// Whether a simple name means a lock field.
-fn is_lock_named(context: &Context, x: Option<&Ident>) -> bool
-    ensures { result ≡ wanted.is_lock_named context.now (option_copied x.entry) }
+/// Whether a name that means no variable means a lock field.
+fn is_lock_meant(context: &Context, x: &Ident) -> bool
+    ensures { result ≡ wanted.is_lock_meant context.now (meaning_of context.now x.now) }
 {
-    let Some(x) = x else {
-        return false;
-    };
     match context.meaning(x) {
         Meaning::Field(f) => is_lock_field(context, f),
         Meaning::Variable(_, _) => false,
         Meaning::Class(_) => false,
         Meaning::Opaque => false,
+    }
+}
+
+/// Whether a simple name means a lock field, or a variable of a lock type to which nothing is stored.
+fn is_lock_named(context: &Context, x: Option<&Ident>, is_stored: bool) -> bool
+    ensures { result ≡ wanted.is_lock_named context.now (option_copied x.entry) is_stored }
+{
+    let Some(x) = x else {
+        return false;
+    };
+    match context.variable(x) {
+        Some(known) => known.is_lock && !is_stored,
+        None => is_lock_meant(context, x),
     }
 }
 
@@ -49,18 +60,18 @@ fn is_own_lock(context: &Context, x: Option<&Ident>) -> bool
     }
 }
 
-/// Whether an expression means a lock field.
-fn is_lock(context: &Context, e: &Expression) -> bool
-    ensures { result ≡ wanted.is_lock context.now (expr_of e.now) }
+/// Whether an expression means a lock field, or such a variable.
+fn is_lock(context: &Context, e: &Expression, is_stored: bool) -> bool
+    ensures { result ≡ wanted.is_lock context.now (expr_of e.now) is_stored }
 {
-    is_lock_named(context, simple_name(e)) || is_own_lock(context, own_name(e))
+    is_lock_named(context, simple_name(e), is_stored) || is_own_lock(context, own_name(e))
 }
 
-/// Notes a lock that is that of no lock field.
-pub fn note_lock(context: &mut Context, e: &Expression)
-    ensures { context.new ≡ wanted.lock_noted context.old (expr_of e.now) }
+/// Notes a lock that is that of no lock field and of no such variable, where something is stored to it or not.
+pub fn note_lock(context: &mut Context, e: &Expression, is_stored: bool)
+    ensures { context.new ≡ wanted.lock_noted context.old (expr_of e.now) is_stored }
 {
-    if is_lock(context, e) {
+    if is_lock(context, e, is_stored) {
         return;
     }
     context.note_other_lock();

@@ -4,8 +4,8 @@ ghost use Rattle.java_resolver.specs.Firsts.{last_that};
 ghost use Rattle.core_lowering_context.specs.Seen.{FindsAll, front_of, is_named, seen, variable};
 
 use crate::by_name::{ByName, add, last_seen, no_names, remove_last};
-use java_resolver::ScopeVariable;
-use racer_base::{Kind, Memory, Text, VarId};
+use java_resolver::{ScopeVariable, VariableKind};
+use racer_base::{Memory, Text, VarId};
 use std::alloc::Global;
 use std::marker::Model;
 use std::mem;
@@ -36,15 +36,20 @@ fn declare(
     by_name: &mut ByName,
     name: &str,
     id: VarId,
-    kind: Kind,
+    known: VariableKind,
 ) -> Result<(), Memory>
     requires { FindsAll by_name.old list.old.items }
     ensures finds { OnOk result (FindsAll by_name.new list.new.items) }
-    ensures list { OnOk result (list.new.items ≡ list.old.items ++ variable name.now id kind ∷ []) }
+    ensures list { OnOk result (list.new.items ≡ list.old.items ++ variable name.now id known ∷ []) }
 {
-    add(alloc, by_name, name, id, kind)?;
+    add(alloc, by_name, name, id, known)?;
     let name = Text::from_str(alloc, name)?;
-    list.push(ScopeVariable { name, id, kind })?;
+    list.push(ScopeVariable {
+        name,
+        id,
+        kind: known.kind,
+        is_lock: known.is_lock,
+    })?;
     Ok(())
 }
 
@@ -87,8 +92,8 @@ impl Variables {
         self.list.as_slice()
     }
 
-    /// The number and the kind of the innermost variable of this name.
-    pub fn named(&self, name: &str) -> Option<(VarId, Kind)>
+    /// The number of the innermost variable of this name, and what is known of it.
+    pub fn named(&self, name: &str) -> Option<(VarId, VariableKind)>
         ensures { result ≡ option_map seen (last_that (is_named name.now) self.now) }
     {
         last_seen(&self.by_name, name)
@@ -100,13 +105,13 @@ impl Variables {
         alloc: Global,
         name: &str,
         id: VarId,
-        kind: Kind,
+        known: VariableKind,
     ) -> Result<(), Memory>
-        ensures { OnOk result (self.new ≡ self.old ++ variable name.now id kind ∷ []) }
+        ensures { OnOk result (self.new ≡ self.old ++ variable name.now id known ∷ []) }
     {
         let mut list = mem::replace(&mut self.list, Vec::new(alloc));
         let mut by_name = mem::replace(&mut self.by_name, no_names(alloc));
-        declare(alloc, &mut list, &mut by_name, name, id, kind)?;
+        declare(alloc, &mut list, &mut by_name, name, id, known)?;
         self.list = list;
         self.by_name = by_name;
         Ok(())

@@ -16,14 +16,14 @@ use Rattle.core_lowering_expressions.specs.Parts.{maker_of, made_front, made_kin
 
 pub called-parts : (context : Context) (place : Place) (n : ℕ) (arguments : Passing) (m : Callee) →
     called context place n arguments m
-    ≡ call_front context m ++ (arguments (passed_kinds context m) ++ call_end context place n m)
+    ≡ call_front context m ++ (arguments (passed_kinds context m n) ++ call_end context place n m)
 called-parts context place n arguments Missing = refl
 called-parts context place n arguments (OfClass m) = refl
 called-parts context place n arguments (OfObject m) = simp append_assoc
 
 pub value-called-parts : (context : Context) (place : Place) (e : Code) (n : ℕ) (arguments : Passing) (m : Callee) →
     called_on_value context place e n arguments m
-    ≡ e ++ (value_call_front context m ++ (arguments (passed_kinds context m) ++ value_call_end context place n m))
+    ≡ e ++ (value_call_front context m ++ (arguments (passed_kinds context m n) ++ value_call_end context place n m))
 value-called-parts context place e n arguments Missing = simp append_assoc
 value-called-parts context place e n arguments (OfClass m) = simp append_assoc
 value-called-parts context place e n arguments (OfObject m) = simp append_assoc
@@ -31,7 +31,7 @@ value-called-parts context place e n arguments (OfObject m) = simp append_assoc
 made-by-parts : (context : Context) (place : Place) (c : ClassId) (n : ℕ) (arguments : Passing) (o : Option MethodId) →
     made_by context place c n arguments o
     ≡ made_front place (option_map (λ m. (c, m)) o)
-    ++ (arguments (made_kinds context (option_map (λ m. (c, m)) o))
+    ++ (arguments (made_kinds context (option_map (λ m. (c, m)) o) n)
     ++ made_end context place n (option_map (λ m. (c, m)) o))
 made-by-parts context place c n arguments None = refl
 made-by-parts context place c n arguments (Some m) = simp append_assoc
@@ -39,7 +39,7 @@ made-by-parts context place c n arguments (Some m) = simp append_assoc
 pub made-parts : (context : Context) (place : Place) (k : Kind) (n : ℕ) (arguments : Passing) →
     made context place k n arguments
     ≡ made_front place (maker_of context k n)
-    ++ (arguments (made_kinds context (maker_of context k n)) ++ made_end context place n (maker_of context k n))
+    ++ (arguments (made_kinds context (maker_of context k n) n) ++ made_end context place n (maker_of context k n))
 made-parts context place (Declared c) n arguments =
     made-by-parts context place c n arguments (constructor_in context c n)
 made-parts context place Plain n arguments = refl

@@ -15,7 +15,7 @@ use Rattle.java_resolver.specs.Meanings.{field_named}
 use Rattle.core_code.specs.declared.code.Op.TheVariants.{Prim, Drop, Outside}
 use Rattle.core_lowering_rules.specs.Trees.{Expr, Access, Selected, Unary, Count, Logical, Binary, Conditional}
 use Rattle.core_lowering_rules.specs.Trees.{Assign, Combine, CallOn, New}
-use Rattle.core_lowering_rules.specs.Trees.{NewArray, NewItems}
+use Rattle.core_lowering_rules.specs.Trees.{NewBody, NewArray, NewItems}
 use Rattle.core_lowering_rules.specs.Trees.{Exprs, pack_exprs, pack_inits, count_exprs, count_inits}
 use Rattle.core_lowering_rules.specs.TreesOf.{expr_of, init_of, access_of, is_assignment, assignment, is_logical}
 use Rattle.core_lowering_rules.specs.TreesOf.{binary}
@@ -36,7 +36,8 @@ use Rattle.core_lowering_expressions.specs.Parts.{then_counted}
 use Rattle.core_lowering_expressions.specs.Parts.{callee_seen, passed_kinds, call_front, call_end, value_call_front}
 use Rattle.core_lowering_expressions.specs.Parts.{value_call_end, class_callee, class_call, class_call_kind}
 use Rattle.core_lowering_expressions.specs.Parts.{maker_of, made_front, made_kinds, made_end}
-use Rattle.core_lowering_expressions.specs.Together.{assign_front, assign_end, operator_front, operator_end, target_callee}
+use Rattle.core_lowering_expressions.specs.Together.{assign_front, assign_end, operator_front, operator_end}
+use Rattle.core_lowering_expressions.specs.Together.{target_callee}
 use Rattle.core_lowering_expressions.specs.Together.{target_front, target_end, target_call, target_kind, called_behind}
 use Rattle.core_lowering_expressions.proofs.AccessParts.{read-parts, assigned-parts, combined-parts, counted-parts}
 use Rattle.core_lowering_expressions.proofs.AccessParts.{kind-stored, value-behind, value-same}
@@ -180,28 +181,28 @@ counts-inits all = sym (count-packed-inits (map init_of all) ∙ length-map all 
 
 target-parts : (context : Context) (t : Target) (x : Ident) (es : Exprs) →
     target_front context t (target_callee context t x (count_exprs es))
-    ++ passed context (passed_kinds context (target_callee context t x (count_exprs es))) es
+    ++ passed context (passed_kinds context (target_callee context t x (count_exprs es)) (count_exprs es)) es
     ++ target_end context t x.place (count_exprs es) (target_callee context t x (count_exprs es))
     ≡ target_call context t x es
 target-parts context target.Own x es =
     let m = own_callee context x (count_exprs es) in
-    append_assoc (call_front context m) (passed context (passed_kinds context m) es)
+    append_assoc (call_front context m) (passed context (passed_kinds context m (count_exprs es)) es)
     (call_end context x.place (count_exprs es) m)
     ∙ sym (called-parts context x.place (count_exprs es) (λ kinds. passed context kinds es) m)
 target-parts context (target.Class c) x es =
     let m = class_callee context c x es in
-    append_assoc (call_front context m) (passed context (passed_kinds context m) es)
+    append_assoc (call_front context m) (passed context (passed_kinds context m (count_exprs es)) es)
     (call_end context x.place (count_exprs es) m)
     ∙ sym (called-parts context x.place (count_exprs es) (λ kinds. passed context kinds es) m)
 target-parts context (target.Value k) x es =
     let m = callee_of_value context (value_kind k) x (count_exprs es) in
-    append_assoc (value_call_front context m) (passed context (passed_kinds context m) es)
+    append_assoc (value_call_front context m) (passed context (passed_kinds context m (count_exprs es)) es)
     (value_call_end context x.place (count_exprs es) m)
 
 pub call-made : (context : Context) (t : Target) (x : Ident) (callee : CodeCallee) (all : List Expression)
     (kinds : List Kind) (k : ℕ) (old one second new : Code) →
     k ≡ length all → callee_seen callee ≡ target_callee context t x k →
-    one ≡ old ++ target_front context t (callee_seen callee) → kinds ≡ passed_kinds context (callee_seen callee) →
+    one ≡ old ++ target_front context t (callee_seen callee) → kinds ≡ passed_kinds context (callee_seen callee) k →
     second ≡ one ++ passed context kinds (pack_exprs (map expr_of all)) →
     new ≡ second ++ target_end context t x.place k (callee_seen callee) →
     new ≡ old ++ target_call context t x (pack_exprs (map expr_of all))
@@ -210,9 +211,11 @@ call-made context t x callee all kinds k old one second new many is p same q r =
     let n = count_exprs es in
     let m = target_callee context t x n in
     let here : callee_seen callee ≡ m = is ∙ ap (target_callee context t x) (many ∙ counts all) in
-    three old one second new (target_front context t m) (passed context (passed_kinds context m) es)
+    three old one second new (target_front context t m) (passed context (passed_kinds context m n) es)
     (target_end context t x.place n m) (p ∙ ap (λ c. old ++ target_front context t c) here)
-    (q ∙ ap (λ ks. one ++ passed context ks es) (same ∙ ap (passed_kinds context) here))
+    (q ∙ ap (λ ks. one ++ passed context ks es)
+    (same ∙ ap (λ j. passed_kinds context (callee_seen callee) j) (many ∙ counts all)
+    ∙ ap (λ c. passed_kinds context c n) here))
     (r ∙ ap (λ j. second ++ target_end context t x.place j (callee_seen callee)) (many ∙ counts all)
     ∙ ap (λ c. second ++ target_end context t x.place n c) here)
     ∙ ap (λ y. old ++ y) (target-parts context t x es)
@@ -258,7 +261,7 @@ on-object-kind context e x es given is kinds =
 pub new-made : (context : Context) (place : Place) (t : Ty) (maker : Option (ClassId × MethodId))
     (all : List Expression) (kinds : List Kind) (n m : ℕ) (old one second new : Code) → n ≡ length all →
     m ≡ length all → maker ≡ maker_of context (type_kind context t) n →
-    one ≡ old ++ made_front place (maker_of context (type_kind context t) n) → kinds ≡ made_kinds context maker →
+    one ≡ old ++ made_front place (maker_of context (type_kind context t) n) → kinds ≡ made_kinds context maker n →
     second ≡ one ++ passed context kinds (pack_exprs (map expr_of all)) →
     new ≡ second ++ made_end context place m maker →
     new ≡ old ++ code context (New place t (pack_exprs (map expr_of all)))
@@ -267,13 +270,14 @@ new-made context place t maker all kinds n m old one second new many again is p 
     let k = count_exprs es in
     let o = maker_of context (type_kind context t) k in
     let here : maker ≡ o = is ∙ ap (maker_of context (type_kind context t)) (many ∙ counts all) in
-    three old one second new (made_front place o) (passed context (made_kinds context o) es)
+    three old one second new (made_front place o) (passed context (made_kinds context o k) es)
     (made_end context place k o)
     (p ∙ ap (λ j. old ++ made_front place (maker_of context (type_kind context t) j)) (many ∙ counts all))
-    (q ∙ ap (λ ks. one ++ passed context ks es) (same ∙ ap (made_kinds context) here))
+    (q ∙ ap (λ ks. one ++ passed context ks es)
+    (same ∙ ap (λ j. made_kinds context maker j) (many ∙ counts all) ∙ ap (λ c. made_kinds context c k) here))
     (r ∙ ap (λ j. second ++ made_end context place j maker) (again ∙ counts all)
     ∙ ap (λ j. second ++ made_end context place k j) here)
-    ∙ ap (λ y. old ++ y) (append_assoc (made_front place o) (passed context (made_kinds context o) es)
+    ∙ ap (λ y. old ++ y) (append_assoc (made_front place o) (passed context (made_kinds context o k) es)
     (made_end context place k o))
     ∙ ap (λ y. old ++ y) (sym (made-parts context place (type_kind context t) k (λ kinds. passed context kinds es)))
 
@@ -281,6 +285,14 @@ pub lengths-made : (context : Context) (place : Place) (all : List Expression) (
     n ≡ length all → one ≡ old ++ passed context [] (pack_exprs (map expr_of all)) →
     new ≡ one ++ op_at place (Outside n) → new ≡ old ++ code context (NewArray place (pack_exprs (map expr_of all)))
 lengths-made context place all n old one new many p q =
+    let es = pack_exprs (map expr_of all) in
+    two old one new (passed context [] es) (op_at place (Outside (count_exprs es))) p
+    (q ∙ ap (λ k. one ++ op_at place (Outside k)) (many ∙ counts all))
+
+pub body-made : (context : Context) (place : Place) (t : Ty) (all : List Expression) (n : ℕ) (old one new : Code) →
+    n ≡ length all → one ≡ old ++ passed context [] (pack_exprs (map expr_of all)) →
+    new ≡ one ++ op_at place (Outside n) → new ≡ old ++ code context (NewBody place t (pack_exprs (map expr_of all)))
+body-made context place t all n old one new many p q =
     let es = pack_exprs (map expr_of all) in
     two old one new (passed context [] es) (op_at place (Outside (count_exprs es))) p
     (q ∙ ap (λ k. one ++ op_at place (Outside k)) (many ∙ counts all))

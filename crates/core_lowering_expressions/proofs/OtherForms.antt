@@ -1,46 +1,57 @@
 -- What an expression that is no name, and one that is no access, are not.
-use Rattle.std.proofs.Common.{◌≡◌, Bool, true, false, cond, List, ℕ, Some, None, refl, sym, ap, ◌∙◌}
+use Rattle.std.proofs.Common.{◌≡◌, Bool, true, false, cond, List, ℕ, None, refl, sym, ap, ◌∙◌}
 use Rattle.java_lexer.specs.declared.token.TokenKind.{TokenKind}
 use Rattle.java_lexer.specs.declared.token.TokenKind.TheVariants as token
 use Rattle.java_tree.specs.declared.expressions.ArrayTree.{ArrayTree}
 use Rattle.java_tree.specs.declared.expressions.Expression.{Expression, out-Expression, map-Expression}
 use Rattle.java_tree.specs.declared.expressions.Expression.TheFolds.{fold_out-Expression}
-use Rattle.java_tree.specs.declared.expressions.Expression.TheOpen.{Expression-F}
+use Rattle.java_tree.specs.declared.expressions.LambdaBody.{LambdaBody}
+use Rattle.java_tree.specs.declared.expressions.Made.{Made}
+use Rattle.java_tree.specs.declared.expressions.Referred.{Referred}
+use Rattle.java_tree.specs.declared.expressions.CallTree.{CallTree}
+use Rattle.java_tree.specs.declared.expressions.CastTree.{CastTree}
+use Rattle.java_tree.specs.declared.expressions.InstanceTree.{InstanceTree}
+use Rattle.java_tree.specs.declared.expressions.LambdaTree.{LambdaTree}
+use Rattle.java_tree.specs.declared.expressions.NewTree.{NewTree}
+use Rattle.java_tree.specs.declared.expressions.ReferenceTree.{ReferenceTree}
 use Rattle.java_tree.specs.declared.expressions.Expression.TheOpen as expression
 use Rattle.java_tree.specs.declared.expressions.Initialiser.{Initialiser}
-use Rattle.java_tree.specs.Trees as tree
-use Rattle.java_tree.specs.View as view
 use Rattle.std.specs.Prelude.{bytes_eq, codes}
 use Rattle.core_lowering_rules.specs.Trees.{Expr, Access, Init, Inits, NoAccess, Prim, Null, Assign, Combine, Count}
-use Rattle.core_lowering_rules.specs.Trees.{Unary}
-use Rattle.core_lowering_rules.specs.Trees.{Binary, Logical}
-use Rattle.core_lowering_rules.specs.TreesOf.{expr_of, init_of, items_of, expr_step, init_step, array_step, access_of}
+use Rattle.core_lowering_rules.specs.Trees.{Unary, Referee, Binary, Logical}
+use Rattle.core_lowering_rules.specs.TreesOf.{OfNew, Layer, expr_of, init_of, behind_of, made_of, referred_of, items_of}
+use Rattle.core_lowering_rules.specs.TreesOf.{call_tree_of, cast_tree_of, instance_tree_of, lambda_tree_of}
+use Rattle.core_lowering_rules.specs.TreesOf.{new_tree_of, reference_tree_of, expr_step, init_step, behind_step}
+use Rattle.core_lowering_rules.specs.TreesOf.{made_step, before_step, array_step, call_step, cast_step, instance_step}
+use Rattle.core_lowering_rules.specs.TreesOf.{lambda_step, new_step, reference_step, access_of}
 use Rattle.core_lowering_rules.specs.TreesOf.{literal, assignment, binary, prefix, is_assignment, is_logical, is_count}
 use Rattle.core_lowering_rules.specs.Context.{Context}
-use Rattle.core_lowering_rules.specs.Expressions.{class_before}
+use Rattle.core_lowering_rules.specs.Expressions.{class_before, is_evaluated}
+use Rattle.core_lowering_rules.proofs.TreeForms.{of_call, of_new, of_cast, of_instance, of_lambda, of_reference}
 
-abbrev pub is_name : tree.Expr → Bool
-is_name (tree.Name x) = true
+abbrev pub is_name : Layer → Bool
+is_name (expression.Name x) = true
 is_name _ = false
 
-abbrev pub is_access : tree.Expr → Bool
-is_access (tree.Name x) = true
-is_access (tree.Field a x) = true
-is_access (tree.Index a i) = true
+abbrev pub is_access : Layer → Bool
+is_access (expression.Name x) = true
+is_access (expression.Field a x) = true
+is_access (expression.Index a i) = true
 is_access _ = false
-
-abbrev Layer : Type 0
-Layer = Expression-F Expression Initialiser ArrayTree
-
--- a layer as both views see it
-abbrev seen : Layer → tree.Expr
-seen l =
-    view.expr_step (map-Expression Expression Initialiser ArrayTree tree.Expr tree.Init tree.Array view.expr_of
-    view.init_of view.array_of l)
 
 abbrev lowered : Layer → Expr
 lowered l =
-    expr_step (map-Expression Expression Initialiser ArrayTree Expr Init Inits expr_of init_of items_of l)
+    expr_step
+    (map-Expression Expression Initialiser LambdaBody Made Referred ArrayTree CallTree CastTree InstanceTree LambdaTree
+    NewTree ReferenceTree Expr Init Expr OfNew Referee Inits Expr Expr Expr Expr Expr Expr expr_of init_of behind_of
+    made_of referred_of items_of call_tree_of cast_tree_of instance_tree_of lambda_tree_of new_tree_of
+    reference_tree_of l)
+
+lowered-out : (e : Expression) → expr_of e ≡ lowered (out-Expression e)
+lowered-out e =
+    fold_out-Expression Expr Init Expr OfNew Referee Inits Expr Expr Expr Expr Expr Expr expr_step init_step
+    behind_step made_step before_step array_step call_step cast_step instance_step lambda_step new_step reference_step
+    e
 
 -- ---- no name
 
@@ -69,14 +80,14 @@ literal-class context token.Number text = refl
 literal-class context token.Character text = refl
 literal-class context token.Sign text = refl
 
-layer-class : (context : Context) (l : Layer) → is_name (seen l) ≡ false → None ≡ class_before context (lowered l)
+layer-class : (context : Context) (l : Layer) → is_name l ≡ false → None ≡ class_before context (lowered l)
 layer-class context (expression.Assign a op b) h =
     assign-class context op (access_of (expr_of a.value)) (expr_of b.value)
 layer-class context (expression.Conditional a b c) h = refl
 layer-class context (expression.Binary a op b) h = binary-class context op (expr_of a.value) (expr_of b.value)
-layer-class context (expression.InstanceOf a t) h = refl
+layer-class context (expression.InstanceOf i) h = of_instance (class_before context) None (λ e. refl) i.value
 layer-class context (expression.Prefix op a) h = prefix-class context op (expr_of a.value)
-layer-class context (expression.Cast t a) h = refl
+layer-class context (expression.Cast k) h = of_cast (class_before context) None (λ t e. refl) k.value
 layer-class context (expression.Postfix a op) h = refl
 layer-class context (expression.Literal k text) h = literal-class context k text
 layer-class context expression.This h = refl
@@ -84,20 +95,72 @@ layer-class context (expression.Name x) h = cc
 layer-class context (expression.Paren a) h = refl
 layer-class context (expression.Field a x) h = refl
 layer-class context (expression.Index a i) h = refl
-layer-class context (expression.Call None x all) h = refl
-layer-class context (expression.Call (Some a) x all) h = refl
+layer-class context (expression.Call k) h =
+    of_call (class_before context) None (λ y es. refl) (λ e y es. refl) k.value
 layer-class context (expression.ClassOf xs) h = refl
-layer-class context (expression.New place t all) h = refl
-layer-class context (expression.NewArray place t lengths n) h = refl
-layer-class context (expression.NewItems place t n items) h = refl
+layer-class context (expression.New n) h =
+    of_new (class_before context) None (λ place t es. refl) (λ place t es. refl) (λ place es. refl) (λ place is. refl)
+    n.value
+layer-class context (expression.Lambda l) h = of_lambda (class_before context) None refl l.value
+layer-class context (expression.Reference r) h = of_reference (class_before context) None (λ to. refl) r.value
+layer-class context (expression.PlainClass t) h = refl
+layer-class context (expression.ThisOf xs) h = refl
 
-pub no-class : (context : Context) (e : Expression) → is_name (view.expr_of e) ≡ false →
+pub no-class : (context : Context) (e : Expression) → is_name (out-Expression e) ≡ false →
     None ≡ class_before context (expr_of e)
 no-class context e h =
-    layer-class context (out-Expression e)
-    (sym (ap is_name (fold_out-Expression tree.Expr tree.Init tree.Array view.expr_step view.init_step view.array_step
-    e)) ∙ h)
-    ∙ ap (class_before context) (sym (fold_out-Expression Expr Init Inits expr_step init_step array_step e))
+    layer-class context (out-Expression e) h ∙ ap (class_before context) (sym (lowered-out e))
+
+-- ---- what a method reference does not evaluate
+
+either-value : (context : Context) (b : Bool) (x y : Expr) → true ≡ is_evaluated context x →
+    true ≡ is_evaluated context y → true ≡ is_evaluated context (cond b x y)
+either-value context true x y p q = p
+either-value context false x y p q = q
+
+literal-value : (context : Context) (k : TokenKind) (text : List ℕ) → true ≡ is_evaluated context (literal k text)
+literal-value context token.Text text = refl
+literal-value context token.Fixed text = either-value context (bytes_eq text (codes "null")) Null Prim refl refl
+literal-value context token.Keyword text = refl
+literal-value context token.Name text = refl
+literal-value context token.Number text = refl
+literal-value context token.Character text = refl
+literal-value context token.Sign text = refl
+
+layer-value : (context : Context) (l : Layer) → is_name l ≡ false → true ≡ is_evaluated context (lowered l)
+layer-value context (expression.Assign a op b) h =
+    either-value context (is_assignment op) (Assign (access_of (expr_of a.value)) (expr_of b.value))
+    (Combine (access_of (expr_of a.value)) (expr_of b.value)) refl refl
+layer-value context (expression.Conditional a b c) h = refl
+layer-value context (expression.Binary a op b) h =
+    either-value context (is_logical op) (Logical (expr_of a.value) (expr_of b.value))
+    (Binary (expr_of a.value) (expr_of b.value)) refl refl
+layer-value context (expression.InstanceOf i) h = of_instance (is_evaluated context) true (λ e. refl) i.value
+layer-value context (expression.Prefix op a) h =
+    either-value context (is_count op) (Count (access_of (expr_of a.value))) (Unary (expr_of a.value)) refl refl
+layer-value context (expression.Cast k) h = of_cast (is_evaluated context) true (λ t e. refl) k.value
+layer-value context (expression.Postfix a op) h = refl
+layer-value context (expression.Literal k text) h = literal-value context k text
+layer-value context expression.This h = refl
+layer-value context (expression.Name x) h = cc
+layer-value context (expression.Paren a) h = refl
+layer-value context (expression.Field a x) h = refl
+layer-value context (expression.Index a i) h = refl
+layer-value context (expression.Call k) h =
+    of_call (is_evaluated context) true (λ y es. refl) (λ e y es. refl) k.value
+layer-value context (expression.ClassOf xs) h = refl
+layer-value context (expression.New n) h =
+    of_new (is_evaluated context) true (λ place t es. refl) (λ place t es. refl) (λ place es. refl) (λ place is. refl)
+    n.value
+layer-value context (expression.Lambda l) h = of_lambda (is_evaluated context) true refl l.value
+layer-value context (expression.Reference r) h = of_reference (is_evaluated context) true (λ to. refl) r.value
+layer-value context (expression.PlainClass t) h = refl
+layer-value context (expression.ThisOf xs) h = refl
+
+pub is-value : (context : Context) (e : Expression) → is_name (out-Expression e) ≡ false →
+    true ≡ is_evaluated context (expr_of e)
+is-value context e h =
+    layer-value context (out-Expression e) h ∙ ap (is_evaluated context) (sym (lowered-out e))
 
 -- ---- no access
 
@@ -124,13 +187,13 @@ literal-access token.Number text = refl
 literal-access token.Character text = refl
 literal-access token.Sign text = refl
 
-layer-access : (l : Layer) → is_access (seen l) ≡ false → NoAccess ≡ access_of (lowered l)
+layer-access : (l : Layer) → is_access l ≡ false → NoAccess ≡ access_of (lowered l)
 layer-access (expression.Assign a op b) h = assign-access op (access_of (expr_of a.value)) (expr_of b.value)
 layer-access (expression.Conditional a b c) h = refl
 layer-access (expression.Binary a op b) h = binary-access op (expr_of a.value) (expr_of b.value)
-layer-access (expression.InstanceOf a t) h = refl
+layer-access (expression.InstanceOf i) h = of_instance access_of NoAccess (λ e. refl) i.value
 layer-access (expression.Prefix op a) h = prefix-access op (expr_of a.value)
-layer-access (expression.Cast t a) h = refl
+layer-access (expression.Cast k) h = of_cast access_of NoAccess (λ t e. refl) k.value
 layer-access (expression.Postfix a op) h = refl
 layer-access (expression.Literal k text) h = literal-access k text
 layer-access expression.This h = refl
@@ -138,16 +201,16 @@ layer-access (expression.Name x) h = cc
 layer-access (expression.Paren a) h = refl
 layer-access (expression.Field a x) h = cc
 layer-access (expression.Index a i) h = cc
-layer-access (expression.Call None x all) h = refl
-layer-access (expression.Call (Some a) x all) h = refl
+layer-access (expression.Call k) h =
+    of_call access_of NoAccess (λ y es. refl) (λ e y es. refl) k.value
 layer-access (expression.ClassOf xs) h = refl
-layer-access (expression.New place t all) h = refl
-layer-access (expression.NewArray place t lengths n) h = refl
-layer-access (expression.NewItems place t n items) h = refl
+layer-access (expression.New n) h =
+    of_new access_of NoAccess (λ place t es. refl) (λ place t es. refl) (λ place es. refl) (λ place is. refl) n.value
+layer-access (expression.Lambda l) h = of_lambda access_of NoAccess refl l.value
+layer-access (expression.Reference r) h = of_reference access_of NoAccess (λ to. refl) r.value
+layer-access (expression.PlainClass t) h = refl
+layer-access (expression.ThisOf xs) h = refl
 
-pub no-access : (e : Expression) → is_access (view.expr_of e) ≡ false → NoAccess ≡ access_of (expr_of e)
+pub no-access : (e : Expression) → is_access (out-Expression e) ≡ false → NoAccess ≡ access_of (expr_of e)
 no-access e h =
-    layer-access (out-Expression e)
-    (sym (ap is_access (fold_out-Expression tree.Expr tree.Init tree.Array view.expr_step view.init_step
-    view.array_step e)) ∙ h)
-    ∙ ap access_of (sym (fold_out-Expression Expr Init Inits expr_step init_step array_step e))
+    layer-access (out-Expression e) h ∙ ap access_of (sym (lowered-out e))

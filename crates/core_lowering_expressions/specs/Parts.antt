@@ -1,12 +1,11 @@
 -- A contract of a public call rests on this: the code of accesses and calls in the parts in which it is made.
-use Rattle.std.specs.Prelude.{ℕ, suc, List, [], ◌∷◌, ◌++◌, Option, Some, None, option_map}
+use Rattle.std.specs.Prelude.{ℕ, suc, true, false, List, [], ◌∷◌, ◌++◌, Option, Some, None, option_map}
 use Rattle.racer_base.specs.declared.ids.ClassId.{ClassId}
 use Rattle.racer_base.specs.declared.ids.MethodId.{MethodId}
 use Rattle.racer_base.specs.declared.ids.Kind.{Kind}
 use Rattle.racer_base.specs.declared.ids.Kind.TheVariants.{Plain, Declared, Other}
 use Rattle.racer_base.specs.declared.ids.Place.{Place}
 use Rattle.core_code.specs.declared.code.Op.TheVariants.{Push, Dup, Drop, New, Get, Put, Set, Prim, Outside}
-use Rattle.java_resolver.specs.declared.table.Table.{Table}
 use Rattle.core_lowering_rules.specs.Trees.{Exprs, count_exprs}
 use Rattle.core_lowering_rules.specs.Expressions.{passed}
 use Rattle.core_lowering_rules.specs.ValueKinds.{ValueKind, Of}
@@ -77,10 +76,10 @@ callee_seen (callee.OfClass m) = OfClass m
 callee_seen (callee.OfObject m) = OfObject m
 
 -- what arguments are converted to
-abbrev pub passed_kinds : Context → Callee → List Kind
-passed_kinds context Missing = []
-passed_kinds context (OfClass m) = parameter_kinds context m
-passed_kinds context (OfObject m) = parameter_kinds context m
+abbrev pub passed_kinds : Context → Callee → ℕ → List Kind
+passed_kinds context Missing n = []
+passed_kinds context (OfClass m) n = parameter_kinds context m n
+passed_kinds context (OfObject m) n = parameter_kinds context m n
 
 -- f(..): before and behind the arguments
 abbrev pub call_front : Context → Callee → Code
@@ -90,8 +89,8 @@ call_front context (OfObject m) = push_this context
 
 abbrev pub call_end : Context → Place → ℕ → Callee → Code
 call_end context place n Missing = op context (Outside n)
-call_end context place n (OfClass m) = call_at context place m n
-call_end context place n (OfObject m) = call_at context place m (suc n)
+call_end context place n (OfClass m) = call_at context place m false n
+call_end context place n (OfObject m) = call_at context place m true n
 
 -- e.f(..): between e and the arguments, and behind them
 abbrev pub value_call_front : Context → Callee → Code
@@ -101,8 +100,8 @@ value_call_front context (OfObject m) = []
 
 abbrev pub value_call_end : Context → Place → ℕ → Callee → Code
 value_call_end context place n Missing = op context (Outside (suc n))
-value_call_end context place n (OfClass m) = call_at context place m n
-value_call_end context place n (OfObject m) = call_at context place m (suc n)
+value_call_end context place n (OfClass m) = call_at context place m false n
+value_call_end context place n (OfObject m) = call_at context place m true n
 
 -- new T(..), where T has this kind: its class and the constructor, where they are the folder's
 abbrev pub maker_of : Context → Kind → ℕ → Option (ClassId × MethodId)
@@ -114,13 +113,13 @@ abbrev pub made_front : Place → Option (ClassId × MethodId) → Code
 made_front place None = []
 made_front place (Some made) = op_at place (New made.0)
 
-abbrev pub made_kinds : Context → Option (ClassId × MethodId) → List Kind
-made_kinds context None = []
-made_kinds context (Some made) = parameter_kinds context made.1
+abbrev pub made_kinds : Context → Option (ClassId × MethodId) → ℕ → List Kind
+made_kinds context None n = []
+made_kinds context (Some made) n = parameter_kinds context made.1 n
 
 abbrev pub made_end : Context → Place → ℕ → Option (ClassId × MethodId) → Code
 made_end context place n None = op_at place (Outside n)
-made_end context place n (Some made) = call_at context place made.1 (suc n)
+made_end context place n (Some made) = call_at context place made.1 true n
 
 -- ---- arguments
 

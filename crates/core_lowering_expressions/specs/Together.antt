@@ -53,7 +53,7 @@ target_end context (target.Value kind) place n m = value_call_end context place 
 -- behind a value, where this is the callee
 abbrev pub called_behind : Context → Place → Callee → Exprs → Code
 called_behind context place m es =
-    value_call_front context m ++ (passed context (passed_kinds context m) es
+    value_call_front context m ++ (passed context (passed_kinds context m (count_exprs es)) es
     ++ value_call_end context place (count_exprs es) m)
 
 abbrev pub target_call : Context → Target → Ident → Exprs → Code

@@ -7,7 +7,8 @@ ghost use Rattle.core_lowering_rules.specs.ValueKinds.{Of};
 ghost use Rattle.core_lowering_rules.specs.Context.{op, type_kind};
 ghost use Rattle.core_lowering_rules.specs.Calls.{callee_in, callee_of, info_at, if_static, own_callee};
 ghost use Rattle.core_lowering_rules.specs.Calls.{callee_of_value};
-ghost use Rattle.core_lowering_rules.specs.Calls.{result_kind, parameter_kinds, call_at, constructor_in};
+ghost use Rattle.core_lowering_rules.specs.Calls.{result_kind, parameters_of, given_kinds, parameter_kinds};
+ghost use Rattle.core_lowering_rules.specs.Calls.{with_object, call_of, call_at, constructor_in};
 ghost use Rattle.core_lowering_context.specs.Drafts.{code_of};
 ghost use Rattle.core_lowering_context.specs.Views.{value_kind};
 ghost use Rattle.core_lowering_expressions.specs.Parts.{callee_seen, passed_kinds};
@@ -64,7 +65,7 @@ fn callee_of(context: &Context, m: MethodId) -> Callee
     }
 }
 
-/// The method of a class by its name and its number of arguments, of two the first.
+/// The method of a class that a call of its name with so many arguments means.
 fn callee_in(context: &Context, c: ClassId, x: &Ident, count: u32) -> Callee
     ensures { callee_seen result ≡ callee_in context.now c x.now.text count }
 {
@@ -119,59 +120,96 @@ fn result_kind(context: &Context, callee: Callee) -> ValueKind
     }
 }
 
-/// What arguments are converted to: those of a method that is not analysed to nothing.
-fn parameter_kinds<'b>(context: &'b Context, m: MethodId) -> &'b [Kind]
-    ensures { result.now ≡ parameter_kinds context.now m }
+/// The kinds of a method's parameters.
+fn parameters_of<'b>(context: &'b Context, m: MethodId) -> &'b [Kind]
+    ensures { result.now ≡ parameters_of (info_at context.now m) }
 {
-    if !context.is_analysed(m) {
-        return &[];
-    }
     match context.method(m) {
         Some(info) => info.parameters.as_slice(),
         None => &[],
     }
 }
 
-/// The same of a callee.
-pub fn passed_kinds<'b>(context: &'b Context, callee: Callee) -> &'b [Kind]
-    ensures { result.now ≡ passed_kinds context.now (callee_seen callee) }
+/// What so many arguments are converted to where these are the kinds of the parameters.
+fn given_kinds(count: u32, kinds: &[Kind]) -> &[Kind]
+    ensures { result.now ≡ given_kinds count kinds.now }
+{
+    if kinds.len() == count as usize {
+        return kinds;
+    }
+    &kinds[..kinds.len().saturating_sub(1)]
+}
+
+/// The same for a method; where it is not analysed they are converted to nothing.
+fn parameter_kinds<'b>(context: &'b Context, m: MethodId, count: u32) -> &'b [Kind]
+    ensures { result.now ≡ parameter_kinds context.now m count }
+{
+    if !context.is_analysed(m) {
+        return &[];
+    }
+    given_kinds(count, parameters_of(context, m))
+}
+
+/// The same for a callee.
+pub fn passed_kinds<'b>(context: &'b Context, callee: Callee, count: u32) -> &'b [Kind]
+    ensures { result.now ≡ passed_kinds context.now (callee_seen callee) count }
 {
     match callee {
         Callee::Missing => &[],
-        Callee::OfClass(m) => parameter_kinds(context, m),
-        Callee::OfObject(m) => parameter_kinds(context, m),
+        Callee::OfClass(m) => parameter_kinds(context, m, count),
+        Callee::OfObject(m) => parameter_kinds(context, m, count),
     }
 }
 
-/// The call with so many values, at the place of the name or of `new`.
+/// How many values these are with the object that a method is called on.
+fn with_object(has_object: bool, count: u32) -> Result<u32, Memory>
+    ensures { IfOk result (λ n. n ≡ with_object has_object count) }
+{
+    if has_object {
+        count.checked_add(1).ok_or(Memory)
+    } else {
+        Ok(count)
+    }
+}
+
+/// The call of a method of so many parameters: where the arguments are others in number, one value is made of those
+/// that the last parameter takes (JLS 15.12.4.2).
+fn call_of(
+    context: &Context,
+    place: Place,
+    m: MethodId,
+    has_object: bool,
+    counts: (u32, u32),
+    draft: &mut Making,
+) -> Result<(), Memory>
+    ensures { OnOk result (code_of draft.new ≡ code_of draft.old
+        ++ call_of context.now place m has_object counts.0 counts.1) }
+{
+    let (count, parameters) = counts;
+    if count != parameters {
+        let given = parameters.saturating_sub(1);
+        context.op(draft, Op::Outside(count.saturating_sub(given)))?;
+    }
+    draft.op(place, Op::Call(m, with_object(has_object, parameters)?))
+}
+
+/// The call with so many arguments, at the place of the name or of `new`.
 fn call_at(
     context: &Context,
     place: Place,
     m: MethodId,
+    has_object: bool,
     count: u32,
     draft: &mut Making,
 ) -> Result<(), Memory>
-    ensures { OnOk result (code_of draft.new ≡ code_of draft.old ++ call_at context.now place m count) }
+    ensures { OnOk result (code_of draft.new ≡ code_of draft.old
+        ++ call_at context.now place m has_object count) }
 {
-    if context.is_analysed(m) {
-        draft.op(place, Op::Call(m, count))
-    } else {
-        draft.op(place, Op::Unread(m, count))
+    if !context.is_analysed(m) {
+        return draft.op(place, Op::Unread(m, with_object(has_object, count)?));
     }
-}
-
-/// The call with so many arguments and an object.
-fn call_object(
-    context: &Context,
-    place: Place,
-    m: MethodId,
-    count: u32,
-    draft: &mut Making,
-) -> Result<(), Memory>
-    ensures { OnOk result (code_of draft.new ≡ code_of draft.old ++ call_at context.now place m (suc count)) }
-{
-    let all = count.checked_add(1).ok_or(Memory)?;
-    call_at(context, place, m, all, draft)
+    let parameters = number_of(parameters_of(context, m).len())?;
+    call_of(context, place, m, has_object, (count, parameters), draft)
 }
 
 /// What is not the folder's, with so many values and one more.
@@ -219,8 +257,8 @@ fn end_on(
             Target::Class(_) => context.op(draft, Op::Outside(count)),
             Target::Value(_) => call_outside(context, count, draft),
         },
-        Callee::OfClass(m) => call_at(context, place, m, count, draft),
-        Callee::OfObject(m) => call_object(context, place, m, count, draft),
+        Callee::OfClass(m) => call_at(context, place, m, false, count, draft),
+        Callee::OfObject(m) => call_at(context, place, m, true, count, draft),
     }
 }
 
@@ -241,7 +279,7 @@ pub fn finish_call(
     Ok(result_kind(context, callee))
 }
 
-/// The constructor of a class by its number of arguments, of two the first.
+/// The constructor of a class that so many arguments mean.
 fn constructor_in(context: &Context, c: ClassId, count: u32) -> Option<MethodId>
     ensures { result ≡ constructor_in context.now c count }
 {
@@ -280,7 +318,7 @@ pub fn begin_new(
     context: &Context,
     place: Place,
     t: &TypeTree,
-    count: usize,
+    count: u32,
     draft: &mut Making,
 ) -> Result<Option<(ClassId, MethodId)>, Memory>
     ensures code { OnOk result (code_of draft.new ≡ code_of draft.old
@@ -288,17 +326,21 @@ pub fn begin_new(
     ensures maker { IfOk result (λ maker. maker
         ≡ maker_of context.now (type_kind context.now (ty_of t.now)) count) }
 {
-    let maker = maker_of(context, context.type_kind(t), number_of(count)?);
+    let maker = maker_of(context, context.type_kind(t), count);
     push_new(place, maker, draft)?;
     Ok(maker)
 }
 
-/// What the arguments of new T(..) are converted to.
-pub fn made_kinds<'b>(context: &'b Context, maker: Option<(ClassId, MethodId)>) -> &'b [Kind]
-    ensures { result.now ≡ made_kinds context.now maker }
+/// What so many arguments of new T(..) are converted to.
+pub fn made_kinds<'b>(
+    context: &'b Context,
+    maker: Option<(ClassId, MethodId)>,
+    count: u32,
+) -> &'b [Kind]
+    ensures { result.now ≡ made_kinds context.now maker count }
 {
     match maker {
-        Some(made) => parameter_kinds(context, made.1),
+        Some(made) => parameter_kinds(context, made.1, count),
         None => &[],
     }
 }
@@ -314,7 +356,7 @@ fn end_new(
     ensures { OnOk result (code_of draft.new ≡ code_of draft.old ++ made_end context.now place count maker) }
 {
     match maker {
-        Some(made) => call_object(context, place, made.1, count, draft),
+        Some(made) => call_at(context, place, made.1, true, count, draft),
         None => draft.op(place, Op::Outside(count)),
     }
 }
@@ -324,13 +366,13 @@ pub fn finish_new(
     context: &Context,
     place: Place,
     t: &TypeTree,
-    count: usize,
+    count: u32,
     maker: Option<(ClassId, MethodId)>,
     draft: &mut Making,
 ) -> Result<ValueKind, Memory>
     ensures code { OnOk result (code_of draft.new ≡ code_of draft.old ++ made_end context.now place count maker) }
     ensures kind { IfOk result (λ k. value_kind k ≡ Of (type_kind context.now (ty_of t.now))) }
 {
-    end_new(context, place, number_of(count)?, maker, draft)?;
+    end_new(context, place, count, maker, draft)?;
     Ok(ValueKind::Of(context.type_kind(t)))
 }

@@ -1,10 +1,11 @@
 //! The code of expressions (JLS 15) and array initialisers (JLS 10.6).
 ghost use Rattle.std.specs.Prelude.{◌≡◌, ◌++◌, map, OnOk, IfOk};
 ghost use Rattle.racer_base.specs.declared.ids.Kind.TheVariants as kinds;
-ghost use Rattle.java_tree.specs.View.{ty_of};
-ghost use Rattle.core_lowering_rules.specs.Trees.{Read, Cast, Conditional};
+ghost use Rattle.core_lowering_rules.specs.Trees.{Read, Refer, ToExpr, Cast, Conditional};
 ghost use Rattle.core_lowering_rules.specs.Trees.{Selected, NewArray, NewItems, pack_exprs, pack_inits};
 ghost use Rattle.core_lowering_rules.specs.TreesOf.{access_of, expr_of, init_of, assignment, prefix, binary};
+ghost use Rattle.core_lowering_rules.specs.TreesOf.{referred_of};
+ghost use Rattle.core_lowering_rules.specs.TreesOf.{first_type};
 ghost use Rattle.core_lowering_rules.specs.ValueKinds.{Of};
 ghost use Rattle.core_lowering_rules.specs.Expressions.{code, kind, storage, init_code, init_kind};
 ghost use Rattle.core_lowering_context.specs.Drafts.{code_of};
@@ -12,18 +13,20 @@ ghost use Rattle.core_lowering_context.specs.Views.{value_kind};
 ghost use Rattle.core_lowering_expressions.specs.Parts.{base_of, without_base};
 ghost use Rattle.core_lowering_expressions.specs.declared.storage.Storage.TheVariants.{Elsewhere as StoredElsewhere};
 
-use crate::calls::Target;
-use crate::invocations::{lower_arguments, lower_call, lower_call_on, lower_new};
-use crate::names::{class_before, class_object, this_object};
-use crate::operators::{cast, is_count, literal};
+use crate::invocations::{lower_arguments, lower_called, lower_made};
+use crate::names::{
+    class_before, class_object, is_evaluated, this_object, this_object_of, unknown,
+};
+use crate::operators::{cast, cast_kind, is_count, literal};
 use crate::storage::{Storage, of_class, of_name, of_value, read};
 use crate::values::{
     begin_assign, begin_conditional, begin_operator, count_value, end_assign, end_conditional,
     end_operator, new_array, prim,
 };
+use core_code::Op;
 use core_lowering_context::{Context, Making, ValueKind};
-use java_tree::{Expression, Ident, Initialiser, TypeTree};
-use racer_base::{Memory, Place};
+use java_tree::{Expression, Ident, Initialiser, Referred, TypeTree};
+use racer_base::{Kind, Memory, Place};
 use std::alloc::Global;
 
 /// The code of an expression, which leaves one value, of this kind.
@@ -41,9 +44,9 @@ pub fn lower_expression(
         Expression::Assign(a, op, b) => lower_assign(alloc, context, a, op.as_str(), b, draft),
         Expression::Conditional(c, a, b) => lower_conditional(alloc, context, c, a, b, draft),
         Expression::Binary(a, op, b) => lower_operator(alloc, context, a, op.as_str(), b, draft),
-        Expression::InstanceOf(a, _) => lower_prefix(alloc, context, a, "instanceof", draft),
+        Expression::InstanceOf(a) => lower_prefix(alloc, context, &a.value, "instanceof", draft),
         Expression::Prefix(op, a) => lower_prefix(alloc, context, a, op.as_str(), draft),
-        Expression::Cast(t, a) => lower_cast(alloc, context, a, t, draft),
+        Expression::Cast(a) => lower_cast(alloc, context, &a.value, a.types.as_slice(), draft),
         Expression::Postfix(a, _) => lower_prefix(alloc, context, a, "++", draft),
         Expression::Literal(kind, text) => literal(context, *kind, text.as_str(), draft),
         Expression::This => this_object(context, draft),
@@ -51,16 +54,13 @@ pub fn lower_expression(
         Expression::Name(_) => lower_read(alloc, context, e, draft),
         Expression::Field(_, _) => lower_read(alloc, context, e, draft),
         Expression::Index(_, _) => lower_read(alloc, context, e, draft),
-        Expression::Call(None, x, all) => {
-            lower_call(alloc, context, all, Target::Own, x.get(), draft)
-        }
-        Expression::Call(Some(a), x, all) => lower_call_on(alloc, context, a, x.get(), all, draft),
+        Expression::Call(call) => lower_called(alloc, context, call, draft),
         Expression::ClassOf(names) => class_object(context, names, draft),
-        Expression::New(place, t, all) => lower_new(alloc, context, all, *place, t.get(), draft),
-        Expression::NewArray(place, _, all, _) => lower_lengths(alloc, context, all, *place, draft),
-        Expression::NewItems(place, _, _, array) => {
-            lower_array(alloc, context, &array.items, *place, draft)
-        }
+        Expression::New(new) => lower_made(alloc, context, new, draft),
+        Expression::Lambda(_) => unknown(context, draft),
+        Expression::Reference(a) => lower_reference(alloc, context, &a.of, draft),
+        Expression::PlainClass(_) => unknown(context, draft),
+        Expression::ThisOf(names) => this_object_of(context, names, draft),
     }
 }
 
@@ -180,21 +180,60 @@ fn lower_prefix(
     prim(context, 1, draft)
 }
 
-/// `(T) a`
+/// `(T & ..) a`
 #[cycle(lower_expressions)]
 fn lower_cast(
     alloc: Global,
     context: &Context,
     a: &Expression,
-    t: &TypeTree,
+    types: &[TypeTree],
     draft: &mut Making,
 ) -> Result<ValueKind, Memory>
     ensures code { OnOk result (code_of draft.new ≡ code_of draft.old
-        ++ code context.now (Cast (ty_of t.now) (expr_of a.now))) }
-    ensures kind { IfOk result (λ k. value_kind k ≡ kind context.now (Cast (ty_of t.now) (expr_of a.now))) }
+        ++ code context.now (Cast (first_type types.now) (expr_of a.now))) }
+    ensures kind { IfOk result (λ k. value_kind k
+        ≡ kind context.now (Cast (first_type types.now) (expr_of a.now))) }
 {
     lower_expression(alloc, context, a, draft)?;
-    cast(context, context.type_kind(t), draft)
+    cast(context, cast_kind(context, types), draft)
+}
+
+/// A method reference to an expression, which is not evaluated where it is a name of a class or of nothing.
+#[cycle(lower_expressions)]
+fn lower_referred(
+    alloc: Global,
+    context: &Context,
+    e: &Expression,
+    draft: &mut Making,
+) -> Result<ValueKind, Memory>
+    ensures code { OnOk result (code_of draft.new ≡ code_of draft.old
+        ++ code context.now (Refer (ToExpr (expr_of e.now)))) }
+    ensures kind { IfOk result (λ k. value_kind k ≡ Of kinds.Other) }
+{
+    if !is_evaluated(context, e) {
+        return unknown(context, draft);
+    }
+    lower_expression(alloc, context, e, draft)?;
+    context.value(draft, Op::Outside(1), ValueKind::Of(Kind::Other))
+}
+
+/// A method reference (JLS 15.13).
+#[cycle(lower_expressions)]
+fn lower_reference(
+    alloc: Global,
+    context: &Context,
+    to: &Referred,
+    draft: &mut Making,
+) -> Result<ValueKind, Memory>
+    ensures code { OnOk result (code_of draft.new ≡ code_of draft.old
+        ++ code context.now (Refer (referred_of to.now))) }
+    ensures kind { IfOk result (λ k. value_kind k ≡ Of kinds.Other) }
+{
+    match to {
+        Referred::Of(e) => lower_referred(alloc, context, e, draft),
+        Referred::Type(_) => unknown(context, draft),
+        Referred::Super => unknown(context, draft),
+    }
 }
 
 /// An operator with two operands.
@@ -243,7 +282,7 @@ fn lower_conditional(
 
 /// new T[a]..
 #[cycle(lower_expressions)]
-fn lower_lengths(
+pub(crate) fn lower_lengths(
     alloc: Global,
     context: &Context,
     lengths: &[Expression],
@@ -260,7 +299,7 @@ fn lower_lengths(
 
 /// The items of an array, and the array.
 #[cycle(lower_expressions)]
-fn lower_array(
+pub(crate) fn lower_array(
     alloc: Global,
     context: &Context,
     items: &[Initialiser],

@@ -1,8 +1,8 @@
 //! The code of calls and object creations (JLS 15.9, 15.12).
 ghost use Rattle.std.specs.Prelude.{◌≡◌, ◌++◌, map, drop, OnOk, IfOk};
 ghost use Rattle.java_tree.specs.View.{ty_of};
-ghost use Rattle.core_lowering_rules.specs.Trees.{CallOn, New, pack_exprs};
-ghost use Rattle.core_lowering_rules.specs.TreesOf.{expr_of};
+ghost use Rattle.core_lowering_rules.specs.Trees.{CallOn, New, NewBody, pack_exprs};
+ghost use Rattle.core_lowering_rules.specs.TreesOf.{expr_of, call_tree_of, new_tree_of};
 ghost use Rattle.core_lowering_rules.specs.Expressions.{code, kind, passed};
 ghost use Rattle.core_lowering_context.specs.Drafts.{code_of};
 ghost use Rattle.core_lowering_context.specs.Views.{value_kind};
@@ -12,10 +12,11 @@ ghost use Rattle.core_lowering_expressions.specs.Together.{target_call, target_k
 use crate::calls::{
     Target, begin_call, begin_new, callee_on, finish_call, finish_new, made_kinds, passed_kinds,
 };
-use crate::expressions::lower_expression;
+use crate::expressions::{lower_array, lower_expression, lower_lengths};
 use crate::names::class_before;
+use core_code::Op;
 use core_lowering_context::{Context, Making, ValueKind, number_of};
-use java_tree::{Expression, Ident, TypeTree};
+use java_tree::{CallTree, Expression, Ident, Made, NewTree, TypeTree};
 use racer_base::{Kind, Memory, Place};
 use std::alloc::Global;
 
@@ -57,7 +58,7 @@ pub fn lower_arguments(
 
 /// A method, where this stands before its name.
 #[cycle(lower_expressions)]
-pub fn lower_call(
+fn lower_call(
     alloc: Global,
     context: &Context,
     arguments: &[Expression],
@@ -77,7 +78,7 @@ pub fn lower_call(
         alloc,
         context,
         arguments,
-        passed_kinds(context, callee),
+        passed_kinds(context, callee, count),
         draft,
     )?;
     finish_call(context, target, x.place, count, callee, draft)
@@ -85,7 +86,7 @@ pub fn lower_call(
 
 /// e.f(..)
 #[cycle(lower_expressions)]
-pub fn lower_call_on(
+fn lower_call_on(
     alloc: Global,
     context: &Context,
     e: &Expression,
@@ -107,7 +108,7 @@ pub fn lower_call_on(
 
 /// new T(..)
 #[cycle(lower_expressions)]
-pub fn lower_new(
+fn lower_new(
     alloc: Global,
     context: &Context,
     arguments: &[Expression],
@@ -120,7 +121,75 @@ pub fn lower_new(
     ensures kind { IfOk result (λ k. value_kind k ≡ kind context.now
         (New place (ty_of t.now) (pack_exprs (map expr_of arguments.now)))) }
 {
-    let maker = begin_new(context, place, t, arguments.len(), draft)?;
-    lower_arguments(alloc, context, arguments, made_kinds(context, maker), draft)?;
-    finish_new(context, place, t, arguments.len(), maker, draft)
+    let count = number_of(arguments.len())?;
+    let maker = begin_new(context, place, t, count, draft)?;
+    let kinds = made_kinds(context, maker, count);
+    lower_arguments(alloc, context, arguments, kinds, draft)?;
+    finish_new(context, place, t, count, maker, draft)
+}
+
+/// new T(..) with a class body.
+#[cycle(lower_expressions)]
+fn lower_body(
+    alloc: Global,
+    context: &Context,
+    arguments: &[Expression],
+    place: Place,
+    t: &TypeTree,
+    draft: &mut Making,
+) -> Result<ValueKind, Memory>
+    ensures code { OnOk result (code_of draft.new ≡ code_of draft.old
+        ++ code context.now (NewBody place (ty_of t.now) (pack_exprs (map expr_of arguments.now)))) }
+    ensures kind { IfOk result (λ k. value_kind k ≡ kind context.now
+        (NewBody place (ty_of t.now) (pack_exprs (map expr_of arguments.now)))) }
+{
+    lower_arguments(alloc, context, arguments, &[], draft)?;
+    let count = number_of(arguments.len())?;
+    let kind = ValueKind::Of(context.type_kind(t));
+    draft.value(place, Op::Outside(count), kind)
+}
+
+/// `f(..)` and `e.f(..)` (JLS 15.12).
+#[cycle(lower_expressions)]
+pub fn lower_called(
+    alloc: Global,
+    context: &Context,
+    call: &CallTree,
+    draft: &mut Making,
+) -> Result<ValueKind, Memory>
+    ensures code { OnOk result (code_of draft.new ≡ code_of draft.old
+        ++ code context.now (call_tree_of call.now)) }
+    ensures kind { IfOk result (λ k. value_kind k ≡ kind context.now (call_tree_of call.now)) }
+{
+    match &call.receiver {
+        Some(e) => lower_call_on(alloc, context, e, &call.name, &call.arguments, draft),
+        None => lower_call(
+            alloc,
+            context,
+            &call.arguments,
+            Target::Own,
+            &call.name,
+            draft,
+        ),
+    }
+}
+
+/// `new` (JLS 15.9, 15.10.1).
+#[cycle(lower_expressions)]
+pub fn lower_made(
+    alloc: Global,
+    context: &Context,
+    new: &NewTree,
+    draft: &mut Making,
+) -> Result<ValueKind, Memory>
+    ensures code { OnOk result (code_of draft.new ≡ code_of draft.old
+        ++ code context.now (new_tree_of new.now)) }
+    ensures kind { IfOk result (λ k. value_kind k ≡ kind context.now (new_tree_of new.now)) }
+{
+    match &new.made {
+        Made::Object(all) => lower_new(alloc, context, all, new.place, &new.kind, draft),
+        Made::Anonymous(all, _) => lower_body(alloc, context, all, new.place, &new.kind, draft),
+        Made::Array(all, _) => lower_lengths(alloc, context, all, new.place, draft),
+        Made::Filled(_, array) => lower_array(alloc, context, &array.items, new.place, draft),
+    }
 }

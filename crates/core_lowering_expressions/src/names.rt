@@ -6,7 +6,9 @@ ghost use Rattle.core_lowering_rules.specs.TreesOf.{expr_of};
 ghost use Rattle.core_lowering_rules.specs.ValueKinds.{Of};
 ghost use Rattle.core_lowering_rules.specs.Expressions.{class_meant, class_before, class_written, class_object};
 ghost use Rattle.core_lowering_rules.specs.Expressions.{this_object};
-ghost use Rattle.core_lowering_rules.specs.Expressions.{this_kind};
+ghost use Rattle.core_lowering_rules.specs.Trees.{Unknown};
+ghost use Rattle.core_lowering_rules.specs.Expressions.{this_kind, is_own_class, this_object_of, this_kind_of};
+ghost use Rattle.core_lowering_rules.specs.Expressions.{is_value, is_evaluated, code};
 ghost use Rattle.core_lowering_context.specs.Drafts.{code_of};
 ghost use Rattle.core_lowering_context.specs.Views.{value_kind};
 
@@ -36,12 +38,12 @@ pub fn class_before(context: &Context, e: &Expression) -> Option<ClassId>
     }
 }
 
-/// The class of the folder that is written before `.class`, as one name.
+/// The class of the folder that is written before `.class` or `.this`, as one name.
 fn class_written(context: &Context, names: &[Ident]) -> Option<ClassId>
     ensures { result ≡ class_written context.now names.now }
 {
     match names {
-        [x] => context.class_named(x.text.as_str()),
+        [x] => context.class_named(x),
         _ => None,
     }
 }
@@ -75,4 +77,59 @@ pub fn this_object(context: &Context, draft: &mut Making) -> Result<ValueKind, M
         Op::Push(VarId(0)),
         ValueKind::Of(Kind::Declared(context.class())),
     )
+}
+
+/// Whether names are that of the class of the method.
+fn is_own_class(context: &Context, names: &[Ident]) -> bool
+    ensures { result ≡ is_own_class context.now (class_written context.now names.now) }
+{
+    match class_written(context, names) {
+        Some(c) => c == context.class(),
+        None => false,
+    }
+}
+
+/// Where nothing is known of a value.
+pub fn unknown(context: &Context, draft: &mut Making) -> Result<ValueKind, Memory>
+    ensures code { OnOk result (code_of draft.new ≡ code_of draft.old ++ code context.now Unknown) }
+    ensures kind { IfOk result (λ k. value_kind k ≡ Of Other) }
+{
+    context.value(draft, Op::Outside(0), ValueKind::Of(Kind::Other))
+}
+
+/// `x.this` (JLS 15.8.4).
+pub fn this_object_of(
+    context: &Context,
+    names: &[Ident],
+    draft: &mut Making,
+) -> Result<ValueKind, Memory>
+    ensures code { OnOk result (code_of draft.new ≡ code_of draft.old ++ this_object_of context.now names.now) }
+    ensures kind { IfOk result (λ k. value_kind k ≡ this_kind_of context.now names.now) }
+{
+    if is_own_class(context, names) {
+        return this_object(context, draft);
+    }
+    unknown(context, draft)
+}
+
+/// Whether a name means a variable or a field.
+fn is_value(meaning: Meaning) -> bool
+    ensures { result ≡ is_value meaning }
+{
+    match meaning {
+        Meaning::Variable(_, _) => true,
+        Meaning::Field(_) => true,
+        Meaning::Class(_) => false,
+        Meaning::Opaque => false,
+    }
+}
+
+/// Whether what a method reference refers to is evaluated (JLS 15.13).
+pub fn is_evaluated(context: &Context, e: &Expression) -> bool
+    ensures { result ≡ is_evaluated context.now (expr_of e.now) }
+{
+    match e {
+        Expression::Name(x) => is_value(context.meaning(x)),
+        _ => true,
+    }
 }

@@ -1,6 +1,7 @@
 //! Operators and literals, by what they are lowered to.
 ghost use Rattle.std.specs.Prelude.{◌≡◌, ◌++◌, OnOk, IfOk};
-ghost use Rattle.core_lowering_rules.specs.TreesOf.{is_assignment, is_logical, is_count, literal};
+ghost use Rattle.core_lowering_rules.specs.TreesOf.{is_assignment, is_logical, is_count, first_type, literal};
+ghost use Rattle.core_lowering_rules.specs.Context.{type_kind};
 ghost use Rattle.core_lowering_rules.specs.ValueKinds.{Of};
 ghost use Rattle.core_lowering_rules.specs.Expressions.{code, kind, cast};
 ghost use Rattle.core_lowering_context.specs.Drafts.{code_of};
@@ -9,6 +10,7 @@ ghost use Rattle.core_lowering_context.specs.Views.{value_kind};
 use core_code::Op;
 use core_lowering_context::{Context, Making, ValueKind};
 use java_lexer::TokenKind;
+use java_tree::TypeTree;
 use racer_base::{Kind, Memory};
 
 pub fn is_assignment(op: &str) -> bool
@@ -43,6 +45,16 @@ pub fn literal(
         TokenKind::Text => context.value(draft, Op::Outside(0), ValueKind::Of(Kind::Other)),
         TokenKind::Fixed if text == "null" => context.value(draft, Op::PushNull, ValueKind::Null),
         _ => context.value(draft, Op::PushPrim, ValueKind::Of(Kind::Plain)),
+    }
+}
+
+/// The kind of a cast to these types, which is that of the first (JLS 15.16).
+pub fn cast_kind(context: &Context, types: &[TypeTree]) -> Kind
+    ensures { result ≡ type_kind context.now (first_type types.now) }
+{
+    match types {
+        [] => Kind::Other,
+        [t, ..] => context.type_kind(t),
     }
 }
 

@@ -3,9 +3,10 @@
 --       int n; A next; static int s; Object any; static A last;
 --       A(int k) { .. }
 --       A f(A a, int k) { .. } static int g(A a) { .. } int u(A a) { .. } void w() { .. } int f(int k) { .. }
+--       int v(A a, int... more) { .. } static int t(int... all) { .. } int z(A a, A... more) { .. }
 --     }
 --     class B { }
--- The method u is not analysed.
+-- The methods u and z are not analysed.
 use Rattle.std.specs.Prelude.{ℕ, Bool, true, false, List, [], ◌∷◌, Option, Some, None, codes, option_map, bytes_eq}
 use Rattle.racer_base.specs.declared.ids.ClassId.{ClassId}
 use Rattle.racer_base.specs.declared.ids.Kind.{Kind}
@@ -17,6 +18,7 @@ use Rattle.java_tree.specs.declared.unit.Member.TheVariants.{Field}
 use Rattle.java_resolver.specs.declared.infos.ClassInfo.{ClassInfo}
 use Rattle.java_resolver.specs.declared.infos.FieldInfo.{FieldInfo}
 use Rattle.java_resolver.specs.declared.infos.MethodInfo.{MethodInfo}
+use Rattle.java_resolver.specs.declared.scope.VariableKind.{VariableKind}
 use Rattle.java_resolver.specs.Declarations.{constructor_name}
 use Rattle.java_resolver.specs.NameExamples.{ints, absent, words, method_tree}
 use Rattle.core_code.specs.declared.code.LockKind.TheVariants.{Own}
@@ -66,13 +68,20 @@ method_of name parameters result is_static =
       name = name;
       place = at 1;
       parameters = parameters;
+      any_number = false;
       result = result;
       is_static = is_static;
       is_private = false;
       is_constructor = bytes_eq name constructor_name;
       main = false;
       not_thread_safe = false;
+      hidden = [];
     }
+
+-- the same, whose last parameter takes any number of arguments
+abbrev pub method_with_any : List ℕ → List Kind → Bool → MethodInfo
+method_with_any name parameters is_static =
+    record (method_of name parameters Plain is_static) { any_number = true }
 
 abbrev pub an_a : Kind
 an_a = Declared class_a
@@ -87,8 +96,11 @@ folder =
       methods =
           method_of (codes "<new>") (Plain ∷ []) an_a false ∷ method_of (codes "f") (an_a ∷ Plain ∷ []) an_a false
           ∷ method_of (codes "g") (an_a ∷ []) Plain true ∷ method_of (codes "u") (an_a ∷ []) Plain false
-          ∷ method_of (codes "w") [] Plain false ∷ method_of (codes "f") (Plain ∷ []) Plain false ∷ [];
-      statuses = None ∷ None ∷ None ∷ Some Recursive ∷ None ∷ None ∷ [];
+          ∷ method_of (codes "w") [] Plain false ∷ method_of (codes "f") (Plain ∷ []) Plain false
+          ∷ method_with_any (codes "v") (an_a ∷ Other ∷ []) false ∷ method_with_any (codes "t") (Other ∷ []) true
+          ∷ method_with_any (codes "z") (an_a ∷ Other ∷ []) false ∷ [];
+      statuses =
+          None ∷ None ∷ None ∷ Some Recursive ∷ None ∷ None ∷ None ∷ None ∷ Some Recursive ∷ [];
     }
 
 -- ---- where code stands
@@ -106,7 +118,7 @@ entered is_static result kinds =
       place = method_place;
       result = result;
       given = given_by result;
-      scope = record { class = class_a; is_static = is_static; variables = [] };
+      scope = record { class = class_a; is_static = is_static; hidden = []; variables = [] };
       kinds = kinds;
       exits = 0;
       labels = [];
@@ -117,10 +129,14 @@ entered is_static result kinds =
     }
 
 -- variables k, a and o: a number, an object of A, any other
+-- that is no lock
+abbrev pub of_kind : Kind → VariableKind
+of_kind k = record { kind = k; is_lock = false }
+
 abbrev pub with_variables : Context → Context
 with_variables context =
-    declared (declared (declared context Plain (ident (codes "k"))) an_a (ident (codes "a"))) Other
-    (ident (codes "o"))
+    declared (declared (declared context (of_kind Plain) (ident (codes "k"))) (of_kind an_a) (ident (codes "a")))
+    (of_kind Other) (ident (codes "o"))
 
 -- variable 0 is `this`; k, a and o are 1, 2 and 3
 abbrev pub in_object : Result → Context
@@ -142,6 +158,12 @@ lowered = lowered_in (in_object (Value an_a))
 -- the same of a static method
 abbrev pub lowered_static : List ℕ → Option Code
 lowered_static = lowered_in (in_class (Value Plain))
+
+-- the same where this name means no class
+abbrev pub lowered_hiding : List ℕ → List ℕ → Option Code
+lowered_hiding name =
+    let context : Context = in_object Nothing in
+    lowered_in (record context { scope = record context.scope { hidden = name ∷ [] } })
 
 abbrev pub value_of : List ℕ → Option Code
 value_of text = option_map (λ e. made (code (in_object Nothing) e)) (expr_of_text text)
@@ -234,7 +256,7 @@ ended_body context text = option_map (λ s. ended context (made (stmt context s)
 
 -- void m(A a)
 abbrev pub in_m : Context
-in_m = declared (entered false Nothing (an_a ∷ [])) an_a (ident (codes "a"))
+in_m = declared (entered false Nothing (an_a ∷ [])) (of_kind an_a) (ident (codes "a"))
 
 -- void w()
 abbrev pub in_w : Context

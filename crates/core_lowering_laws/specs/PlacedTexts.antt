@@ -31,6 +31,10 @@ word_place = at 3
 abbrev pub ident : List ℕ → Ident
 ident name = record { text = name; place = name_place }
 
+abbrev pub first_type : List plain.Ty → plain.Ty
+first_type [] = plain.Typed (plain.Named plain.no_part) 0
+first_type (t ∷ ts) = t
+
 abbrev mutual
   pub expr : plain.Expr → tree.Expr
   expr (plain.Assign a op b) = assignment op (access_of (expr a)) (expr b)
@@ -38,7 +42,7 @@ abbrev mutual
   expr (plain.Binary a op b) = binary op (expr a) (expr b)
   expr (plain.InstanceOf a t) = tree.Unary (expr a)
   expr (plain.Prefix op a) = prefix op (expr a)
-  expr (plain.Cast t a) = tree.Cast t (expr a)
+  expr (plain.Cast ts a) = tree.Cast (first_type ts) (expr a)
   expr (plain.Postfix a op) = tree.Count (access_of (expr a))
   expr (plain.Literal k text) = literal k text
   expr plain.This = tree.This
@@ -47,11 +51,19 @@ abbrev mutual
   expr (plain.Field a x) = tree.Read (tree.Selected (expr a) (ident x))
   expr (plain.Index a i) = tree.Read (tree.Element (expr a) (expr i))
   expr (plain.Call x all) = tree.Call (ident x) (exprs all)
-  expr (plain.CallOn a x all) = tree.CallOn (expr a) (ident x) (exprs all)
+  expr (plain.CallOn a types x all) = tree.CallOn (expr a) (ident x) (exprs all)
   expr (plain.ClassOf xs) = tree.ClassOf (map ident xs)
   expr (plain.New t all) = tree.New word_place t (exprs all)
   expr (plain.NewArray t lengths n) = tree.NewArray word_place (exprs lengths)
   expr (plain.NewItems t n items) = tree.NewItems word_place (array items)
+  expr (plain.NewBody t all body) = tree.NewBody word_place t (exprs all)
+  expr (plain.Lambda ps a) = tree.Unknown
+  expr (plain.BlockLambda ps block) = tree.Unknown
+  expr (plain.Reference a types x) = tree.Refer (tree.ToExpr (expr a))
+  expr (plain.TypeReference t types x) = tree.Refer tree.ToType
+  expr (plain.SuperReference types x) = tree.Refer tree.ToType
+  expr (plain.PlainClass t) = tree.Unknown
+  expr (plain.ThisOf xs) = tree.ThisOf (map ident xs)
 
   pub exprs : plain.Exprs → tree.Exprs
   exprs no_expr = tree.no_expr
@@ -69,7 +81,7 @@ abbrev mutual
   init (Items items) = tree.Items (array items)
 
 abbrev pub variable : plain.Variable → tree.Variable
-variable v = record { name = ident v.name; initialiser = option_map init v.initialiser }
+variable v = record { name = ident v.name; arrays = v.arrays; initialiser = option_map init v.initialiser }
 
 abbrev pub start : plain.Start → tree.Start
 start (Declares l) = tree.Declares l.kind (map variable l.variables)
@@ -104,8 +116,9 @@ abbrev mutual
   stmt (plain.If e s) = tree.If (expr e) (stmt s)
   stmt (plain.IfElse e s t) = tree.IfElse (expr e) (stmt s) (stmt t)
   stmt (plain.For i c updates s) = tree.For (start i) (option_map condition c) (exprs updates) (stmt s)
-  stmt (plain.ForEach is_final t x e s) = tree.ForEach t (ident x) (expr e) (stmt s)
+  stmt (plain.ForEach ms t x e s) = tree.ForEach t (ident x) (expr e) (stmt s)
   stmt (plain.Labelled x s) = tree.Labelled (ident x) (stmt s)
+  stmt (plain.LocalClass x ts) = tree.Empty
   stmt plain.Empty = tree.Empty
   -- by what stands behind the keyword: no two rows have the same, but `break` and `continue`
   stmt (plain.Row word (plain.a_condition e (plain.a_body s rest))) = tree.While (condition e) (stmt s)

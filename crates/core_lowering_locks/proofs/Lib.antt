@@ -1,1 +1,1 @@
-pub mod Unlocking
+pub mod Standing

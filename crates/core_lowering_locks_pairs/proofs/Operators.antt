@@ -9,7 +9,7 @@ use Rattle.java_tree.specs.declared.words.Ident.{Ident}
 use Rattle.java_tree.specs.declared.expressions.Expression.{Expression}
 use Rattle.java_tree.specs.declared.expressions.Expression as form
 use Rattle.java_tree.specs.declared.expressions.Expression.TheFolds.{the_lemmas}
-use Rattle.core_lowering_rules.specs.Trees.{Expr, CallOn, pack_exprs, Access, Prim, Text, Null, Binary, Logical, Unary}
+use Rattle.core_lowering_rules.specs.Trees.{Expr, CallOn, pack_exprs, Access, Prim, Unknown, Null, Binary, Logical, Unary}
 use Rattle.core_lowering_rules.specs.Trees.{Count}
 use Rattle.core_lowering_rules.specs.Trees.{Assign, Combine, is_this, simple_name, own_name, plain_call}
 use Rattle.core_lowering_rules.specs.TreesOf.{binary, prefix, assignment, literal, is_logical, is_count, is_assignment}
@@ -19,7 +19,7 @@ pub either : {A : Type 0} (f : Expr → A) (x : A) (b : Bool) (s t : Expr) → x
 either f x true s t p q = p
 either f x false s t p q = q
 
-pub literal-in : {A : Type 0} (f : Expr → A) (x : A) (k : TokenKind) (text : List ℕ) → x ≡ f Text → x ≡ f Null →
+pub literal-in : {A : Type 0} (f : Expr → A) (x : A) (k : TokenKind) (text : List ℕ) → x ≡ f Unknown → x ≡ f Null →
     x ≡ f Prim → x ≡ f (literal k text)
 literal-in f x token.Text text a b c = a
 literal-in f x token.Fixed text a b c = either f x (bytes_eq text (codes "null")) Null Prim b c

@@ -2,11 +2,11 @@
 ghost use Rattle.std.specs.Prelude.{◌≡◌, map, option_map, codes};
 ghost use Rattle.core_lowering_rules.specs.Trees.{CallOn, pack_exprs, pack_stmts};
 ghost use Rattle.core_lowering_rules.specs.Trees as wanted;
-ghost use Rattle.core_lowering_rules.specs.TreesOf.{expr_of, stmt_of};
+ghost use Rattle.core_lowering_rules.specs.TreesOf.{expr_of, call_tree_of, stmt_of};
 ghost use Rattle.core_lowering_locks_pairs.specs.Seen.{call_seen};
 
 use crate::names::is_same_lock;
-use java_tree::{Expression, Ident, Statement};
+use java_tree::{CallTree, Expression, Ident, Statement};
 
 /// `e.x();`
 #[derive(Clone, Copy)]
@@ -30,20 +30,29 @@ fn without_arguments<'a>(
     }
 }
 
+/// The call where it is on something.
+fn called_on(call: &CallTree) -> Option<PlainCall>
+    ensures { option_map call_seen result ≡ wanted.plain_call (call_tree_of call.now) }
+{
+    match &call.receiver {
+        Some(on) => without_arguments(on, &call.name, &call.arguments),
+        None => None,
+    }
+}
+
 /// The call that an expression is.
 #[tactic(auto, using(crate::proofs::Operators::binary_is_no_call, crate::proofs::Operators::prefix_is_no_call, crate::proofs::Operators::assignment_is_no_call, crate::proofs::Operators::literal_is_no_call))]
 fn plain_call(e: &Expression) -> Option<PlainCall>
     ensures { option_map call_seen result ≡ wanted.plain_call (expr_of e.now) }
 {
     match e {
-        Expression::Call(Some(on), name, arguments) => without_arguments(on, name.get(), arguments),
-        Expression::Call(None, _, _) => None,
+        Expression::Call(call) => called_on(call),
         Expression::Assign(_, _, _) => None,
         Expression::Conditional(_, _, _) => None,
         Expression::Binary(_, _, _) => None,
-        Expression::InstanceOf(_, _) => None,
+        Expression::InstanceOf(_) => None,
         Expression::Prefix(_, _) => None,
-        Expression::Cast(_, _) => None,
+        Expression::Cast(_) => None,
         Expression::Postfix(_, _) => None,
         Expression::Literal(_, _) => None,
         Expression::This => None,
@@ -52,9 +61,11 @@ fn plain_call(e: &Expression) -> Option<PlainCall>
         Expression::Field(_, _) => None,
         Expression::Index(_, _) => None,
         Expression::ClassOf(_) => None,
-        Expression::New(_, _, _) => None,
-        Expression::NewArray(_, _, _, _) => None,
-        Expression::NewItems(_, _, _, _) => None,
+        Expression::New(_) => None,
+        Expression::Lambda(_) => None,
+        Expression::Reference(_) => None,
+        Expression::PlainClass(_) => None,
+        Expression::ThisOf(_) => None,
     }
 }
 
@@ -71,7 +82,7 @@ pub(crate) fn run_call(statement: &Statement) -> Option<PlainCall>
         Statement::If(_, _, Some(_)) => None,
         Statement::While(_, _) => None,
         Statement::For(_, _, _, _) => None,
-        Statement::ForEach(_, _, _, _, _) => None,
+        Statement::ForEach(_, _, _) => None,
         Statement::Sync(_, _, _) => None,
         Statement::Return(_) => None,
         Statement::Empty => None,
@@ -82,6 +93,7 @@ pub(crate) fn run_call(statement: &Statement) -> Option<PlainCall>
         Statement::Labelled(_, _) => None,
         Statement::Assert(_, _) => None,
         Statement::Switch(_, _) => None,
+        Statement::LocalClass(_, _) => None,
         Statement::Try(_) => None,
     }
 }

@@ -1,5 +1,5 @@
 -- Behind declarations and statements the method is the same, and the variables that were in scope are, with maybe more.
-use Rattle.std.proofs.Common.{◌≡◌, Bool, List, [], ◌∷◌, ◌++◌, None, Some, Option, length, take, refl, sym, ap, ◌∙◌}
+use Rattle.std.proofs.Common.{◌≡◌, ℕ, Bool, false, List, [], ◌∷◌, ◌++◌, None, Some, Option, length, take, refl, sym, ap, ◌∙◌}
 use Rattle.std.proofs.Common.{append_assoc, append-nil}
 use Rattle.std.proofs.Math.Seq.{take-append_seam}
 use Rattle.racer_base.specs.declared.ids.ClassId.{ClassId}
@@ -9,8 +9,9 @@ use Rattle.racer_base.specs.declared.ids.VarId.{VarId}
 use Rattle.java_tree.specs.declared.words.Ident.{Ident}
 use Rattle.java_resolver.specs.declared.scope.Scope.{Scope}
 use Rattle.java_resolver.specs.declared.scope.ScopeVariable.{ScopeVariable}
+use Rattle.java_resolver.specs.declared.scope.VariableKind.{VariableKind}
 use Rattle.core_lowering_rules.specs.Trees.{Start, Stmt, Stmts, Groups, Resource}
-use Rattle.core_lowering_rules.specs.Context.{Context, Code, type_kind, ending}
+use Rattle.core_lowering_rules.specs.Context.{Context, Code, variable_kind_in, ending}
 use Rattle.core_lowering_rules.specs.Scopes.{new_variable, declared, started, back_in, after, after_all, after_groups}
 use Rattle.core_lowering_rules.specs.Scopes.{in_guard, out_of_guard, returned_variable}
 use Rattle.core_lowering_rules.specs.Scopes.{after_return, after_last, with_resources, new_variables}
@@ -30,6 +31,7 @@ inside-then a b c p q =
       given = q.given ∙ p.given;
       class = q.class ∙ p.class;
       is_static = q.is_static ∙ p.is_static;
+      hidden = q.hidden ∙ p.hidden;
       more = p.more ++ q.more;
       variables =
           q.variables ∙ ap (λ vs. vs ++ q.more) p.variables ∙ append_assoc a.scope.variables p.more q.more;
@@ -37,8 +39,8 @@ inside-then a b c p q =
       kinds = q.kinds ∙ ap (λ ks. ks ++ q.more_kinds) p.kinds ∙ append_assoc a.kinds p.more_kinds q.more_kinds;
     }
 
-pub inside-declared : (context : Context) (k : Kind) (x : Ident) → Inside context (declared context k x)
-inside-declared context k x =
+pub inside-declared : (context : Context) (known : VariableKind) (x : Ident) → Inside context (declared context known x)
+inside-declared context known x =
     record {
       folder = refl;
       place = refl;
@@ -46,9 +48,10 @@ inside-declared context k x =
       given = refl;
       class = refl;
       is_static = refl;
-      more = new_variable context k x ∷ [];
+      hidden = refl;
+      more = new_variable context known x ∷ [];
       variables = refl;
-      more_kinds = k ∷ [];
+      more_kinds = known.kind ∷ [];
       kinds = refl;
     }
 
@@ -61,6 +64,7 @@ inside-back before inside p =
       given = p.given;
       class = refl;
       is_static = refl;
+      hidden = refl;
       more = [];
       variables = sym (append-nil before.scope.variables);
       more_kinds = p.more_kinds;
@@ -77,6 +81,7 @@ inside-sides before inside s p =
       given = p.given;
       class = p.class;
       is_static = p.is_static;
+      hidden = p.hidden;
       more = p.more;
       variables = p.variables;
       more_kinds = p.more_kinds;
@@ -92,6 +97,7 @@ inside-in_guard context =
       given = refl;
       class = refl;
       is_static = refl;
+      hidden = refl;
       more = [];
       variables = sym (append-nil context.scope.variables);
       more_kinds = [];
@@ -108,6 +114,7 @@ inside-out_of_guard before inside p =
       given = p.given;
       class = p.class;
       is_static = p.is_static;
+      hidden = p.hidden;
       more = p.more;
       variables = p.variables;
       more_kinds = p.more_kinds;
@@ -128,8 +135,8 @@ stays-inside =
       Goes = λ x c y d. Inside c d;
       stays = λ x c. inside-same c;
       further = λ x c y d z e p q. inside-then c d e p q;
-      declares = λ x c t name. inside-declared c (type_kind c t) name;
-      names = λ x c name. inside-declared c Other name;
+      declares = λ x c t n name. inside-declared c (variable_kind_in c t n) name;
+      names = λ x c name. inside-declared c (record { kind = Other; is_lock = false }) name;
       backs = λ x c y d p. inside-back c d p;
       notes = λ x c f blind. inside-sides c c (f c) (inside-same c);
       turns = λ x c y d f blind p. inside-sides c d (f c d) p;
@@ -157,19 +164,22 @@ inside-resources context rs = goes-resources stays-inside context context rs
 
 -- ---- ends of blocks
 
-abbrev scoped : ClassId → Bool → List ScopeVariable → Scope
-scoped c is_static vs = record { class = c; is_static = is_static; variables = vs }
+abbrev scoped : ClassId → Bool → (hidden : List (List ℕ)) → List ScopeVariable → Scope
+scoped c is_static hidden vs = record { class = c; is_static = is_static; hidden = hidden; variables = vs }
 
 -- the variables that are kept are those that were in scope
 pub same_scope : (before inside : Context) → Inside before inside →
-    scoped inside.scope.class inside.scope.is_static (take (length before.scope.variables) inside.scope.variables)
-    ≡ scoped before.scope.class before.scope.is_static before.scope.variables
+    scoped inside.scope.class inside.scope.is_static inside.scope.hidden
+    (take (length before.scope.variables) inside.scope.variables)
+    ≡ scoped before.scope.class before.scope.is_static before.scope.hidden before.scope.variables
 same_scope before inside p =
-    let n = length before.scope.variables in
-    ap (λ c. scoped c inside.scope.is_static (take n inside.scope.variables)) p.class
-    ∙ ap (λ s. scoped before.scope.class s (take n inside.scope.variables)) p.is_static
-    ∙ ap (λ vs. scoped before.scope.class before.scope.is_static (take n vs)) p.variables
-    ∙ ap (scoped before.scope.class before.scope.is_static) (take-append_seam before.scope.variables p.more)
+    let b = before.scope in
+    let n = length b.variables in
+    ap (λ c. scoped c inside.scope.is_static inside.scope.hidden (take n inside.scope.variables)) p.class
+    ∙ ap (λ s. scoped b.class s inside.scope.hidden (take n inside.scope.variables)) p.is_static
+    ∙ ap (λ h. scoped b.class b.is_static h (take n inside.scope.variables)) p.hidden
+    ∙ ap (λ vs. scoped b.class b.is_static b.hidden (take n vs)) p.variables
+    ∙ ap (scoped b.class b.is_static b.hidden) (take-append_seam b.variables p.more)
 
 pub left-back : (before inside : Context) → Inside before inside →
     left_at (length before.scope.variables) inside ≡ back_in before inside

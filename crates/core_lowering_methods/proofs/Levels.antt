@@ -1,14 +1,14 @@
 -- Behind a statement jumps lead where they led before it.
 use Rattle.std.proofs.Common.{◌≡◌, ℕ, Bool, true, false, cond, List, [], ◌∷◌, Option, None, Some, drop, refl, ap, ◌∙◌}
 use Rattle.std.specs.Prelude.{is_some}
-use Rattle.racer_base.specs.declared.ids.Kind.{Kind}
 use Rattle.racer_base.specs.declared.ids.VarId.{VarId}
+use Rattle.java_tree.specs.Trees.{Ty}
 use Rattle.core_lowering_rules.specs.Trees.{Variable, Start, Declares, Runs, Stmt, Run, Local, If, IfElse, While, Do}
 use Rattle.core_lowering_rules.specs.Trees.{For, ForEach, Sync, Return, Block, Empty, Throw, Break, Continue, Labelled}
 use Rattle.core_lowering_rules.specs.Trees.{Assert, Switch, Locked, Try, Finally, Resource, Stmts, no_stmt, stmt_then}
 use Rattle.core_lowering_rules.specs.Trees.{Groups, no_group, group_then}
-use Rattle.core_lowering_rules.specs.Context.{Context, Guard, Target, type_kind}
-use Rattle.core_lowering_rules.specs.Scopes.{declared, all_declared, started, back_in, back_from, in_labelled}
+use Rattle.core_lowering_rules.specs.Context.{Context, Guard, Target}
+use Rattle.core_lowering_rules.specs.Scopes.{of_type, all_declared, started, back_in, back_from, in_labelled}
 use Rattle.core_lowering_rules.specs.Scopes.{with_label, is_loop, break_to, continue_to, jumped, in_guard}
 use Rattle.core_lowering_rules.specs.Scopes.{out_of_guard, returned_variable, with_variable, after_last}
 use Rattle.core_lowering_rules.specs.Scopes.{with_resource, with_resources, unlocked_in, after, after_all, after_groups}
@@ -20,12 +20,12 @@ use Rattle.core_lowering_context.specs.Restored.{left_target}
 abbrev pub Level : (before inside : Context) → Type 0
 Level before inside = inside.targets ≡ before.targets
 
-level-declared : (context : Context) (k : Kind) (vs : List Variable) → Level context (all_declared context k vs)
-level-declared context k [] = refl
-level-declared context k (v ∷ vs) = level-declared (declared context k v.name) k vs
+level-declared : (context : Context) (t : Ty) (vs : List Variable) → Level context (all_declared context t vs)
+level-declared context t [] = refl
+level-declared context t (v ∷ vs) = level-declared (of_type context t v.arrays v.name) t vs
 
 level-started : (context : Context) (i : Start) → Level context (started context i)
-level-started context (Declares t vs) = level-declared context (type_kind context t) vs
+level-started context (Declares t vs) = level-declared context t vs
 level-started context (Runs es) = refl
 
 level-resources : (context : Context) (rs : List Resource) → Level context (with_resources context rs)
@@ -53,7 +53,7 @@ level-after_last context (Some v) = level-return_in context context.guards
 mutual
   pub level-after : (context : Context) (s : Stmt) → Level context (after context s)
   level-after context (Run e) = refl
-  level-after context (Local t vs) = level-declared context (type_kind context t) vs
+  level-after context (Local t vs) = level-declared context t vs
   level-after context (If e s) = level-after context s
   level-after context (IfElse e s t) = level-after (after context s) t ∙ level-after context s
   level-after context (While c s) = refl

@@ -8,37 +8,36 @@ use Rattle.java_tree.specs.declared.methods.MethodTree.{MethodTree}
 use Rattle.java_tree.specs.declared.methods.ParameterTree.{ParameterTree}
 use Rattle.java_tree.specs.declared.unit.Member.{Member}
 use Rattle.java_tree.specs.View.{ty_of}
-use Rattle.java_resolver.specs.Declarations.{is_constructor}
+use Rattle.java_resolver.specs.Declarations.{is_constructor, further_arrays}
 use Rattle.java_resolver.specs.Words.{has_word}
 use Rattle.core_code.specs.Tree.{Tree, in_sequence}
 use Rattle.core_lowering_drafts.specs.Sizes.{is_small}
-use Rattle.core_lowering_rules.specs.Context.{Folder, Context, Code, made, push_owner, type_kind}
-use Rattle.core_lowering_rules.specs.Scopes.{declared, after_all}
+use Rattle.core_lowering_rules.specs.Context.{Folder, Context, Code, made, push_owner}
+use Rattle.core_lowering_rules.specs.Scopes.{of_type, after_all}
 use Rattle.core_lowering_rules.specs.Statements.{closed, returned, stmts}
 use Rattle.core_lowering_rules.specs.Methods.{Source, Default, Spelled, entered, parameters_declared, member_begun}
 use Rattle.core_lowering_rules.specs.Methods.{fields_begun, body_of, block_code, locked, ended, spelled_code}
-use Rattle.core_lowering_rules.specs.Methods.{none_analysed, is_large, code_in}
+use Rattle.core_lowering_rules.specs.Methods.{none_analysed, is_large, code_in, outside_methods}
 use Rattle.core_lowering_drafts.specs.Sites.{numbered}
 use Rattle.core_lowering_context.specs.Beginning.{inside}
 use Rattle.core_lowering_methods.specs.Bodies.{object_begun, owner_pushed, under_lock, with_end, whole_code}
 use Rattle.core_lowering_methods.specs.Bodies.{kept_code}
-use Rattle.core_lowering_context.specs.Beginning.{left_at}
 
 -- ---- parameters
 
 pub place-kept : (context : Context) (ps : List ParameterTree) → (parameters_declared context ps).place ≡ context.place
 place-kept context [] = refl
-place-kept context (p ∷ ps) = place-kept (declared context (type_kind context (ty_of p.kind)) p.name) ps
+place-kept context (p ∷ ps) = place-kept (of_type context (ty_of p.kind) (further_arrays p) p.name) ps
 
 pub guards-kept : (context : Context) (ps : List ParameterTree) →
     (parameters_declared context ps).guards ≡ context.guards
 guards-kept context [] = refl
-guards-kept context (p ∷ ps) = guards-kept (declared context (type_kind context (ty_of p.kind)) p.name) ps
+guards-kept context (p ∷ ps) = guards-kept (of_type context (ty_of p.kind) (further_arrays p) p.name) ps
 
 none-declared : (context : Context) (ps : List ParameterTree) →
     none_analysed (parameters_declared context ps) ≡ parameters_declared (none_analysed context) ps
 none-declared context [] = refl
-none-declared context (p ∷ ps) = none-declared (declared context (type_kind context (ty_of p.kind)) p.name) ps
+none-declared context (p ∷ ps) = none-declared (of_type context (ty_of p.kind) (further_arrays p) p.name) ps
 
 -- ---- the limit
 
@@ -76,13 +75,13 @@ locked-cond context true body = refl
 locked-cond context false body = refl
 
 pub whole-made : (context : Context) (members : List Member) (m : MethodTree) →
-    whole_code (object_begun (left_at 0 context) members m) (owner_pushed context m) context.place
+    whole_code (object_begun (outside_methods context) members m) (owner_pushed context m) context.place
     (has_word (codes "synchronized") m.modifiers) (closed context (after_all context (body_of m))
     (stmts context (body_of m))) (returned context None) ≡ ended context (spelled_code context members m)
 whole-made context members m =
     let object = is_constructor m.result in
     let lock = has_word (codes "synchronized") m.modifiers in
-    let fields : Code = flat_map (member_begun (left_at 0 context)) members in
+    let fields : Code = flat_map (member_begun (outside_methods context)) members in
     let owner : Code = push_owner context in
     let block : List Tree = block_code context (body_of m) in
     let held : List Tree = under_lock context.place true block in
@@ -96,7 +95,7 @@ whole-made context members m =
 pub spelled-made : (folder : Folder) (s : Source) (m : MethodTree) (is_past : Bool) (place : Place)
     (fields owner block last : Code) (code : Tree) →
     is_past ≡ is_large (inside folder s m) m → place ≡ s.info.place →
-    fields ≡ object_begun (left_at 0 (inside folder s m)) s.members m →
+    fields ≡ object_begun (outside_methods (inside folder s m)) s.members m →
     owner ≡ owner_pushed (inside folder s m) m →
     block ≡ closed (inside folder s m) (after_all (inside folder s m) (body_of m))
     (stmts (inside folder s m) (body_of m)) →
@@ -107,7 +106,7 @@ pub spelled-made : (folder : Folder) (s : Source) (m : MethodTree) (is_past : Bo
 spelled-made folder s m is_past place fields owner block last code past at f o b l e =
     let context = inside folder s m in
     let lock = has_word (codes "synchronized") m.modifiers in
-    let object : Code = object_begun (left_at 0 context) s.members m in
+    let object : Code = object_begun (outside_methods context) s.members m in
     let pushed : Code = owner_pushed context m in
     e ∙ ap (λ (made : List Tree). numbered 0 (in_sequence made))
     (ap (λ (t : Bool). kept_code t (whole_code fields owner place lock block last)) past
@@ -138,17 +137,13 @@ known-past first second s m is_past same past =
     ∙ sym (limit-told second s m)
 
 -- the constructor that a class has without declaring it
-pub default-made : (folder : Folder) (s : Source) (context : Context) (begun fields last : Code)
-    (start front whole : List Tree) (code : Tree) → context ≡ entered folder s → begun ≡ [] →
-    fields ≡ begun ++ flat_map (member_begun context) s.members → last ≡ returned context None → start ≡ [] →
+pub default-made : (folder : Folder) (s : Source) (context : Context) (fields last : Code)
+    (start front whole : List Tree) (code : Tree) → context ≡ entered folder s →
+    fields ≡ fields_begun (entered folder s) s.members → last ≡ returned context None → start ≡ [] →
     front ≡ start ++ made fields → whole ≡ with_end last front → code ≡ numbered 0 (in_sequence whole) →
     code ≡ numbered 0 (in_sequence (code_in (entered folder s) s Default))
-default-made folder s context begun fields last start front whole code p q f l t u v w =
-    let own : Context = entered folder s in
-    let same : fields ≡ fields_begun own s.members =
-    f ∙ ap (λ (x : Code). x ++ flat_map (member_begun context) s.members) q
-    ∙ ap (λ (x : Context). flat_map (member_begun x) s.members) p in
+default-made folder s context fields last start front whole code p f l t u v w =
     w ∙ ap (λ (x : List Tree). numbered 0 (in_sequence x))
     (v ∙ ap (λ (x : Code). with_end x front) (l ∙ ap (λ (x : Context). returned x None) p)
-    ∙ ap (with_end (returned own None))
-    (u ∙ ap (λ (x : List Tree). x ++ made fields) t ∙ ap (λ (x : Code). made x) same))
+    ∙ ap (with_end (returned (entered folder s) None))
+    (u ∙ ap (λ (x : List Tree). x ++ made fields) t ∙ ap (λ (x : Code). made x) f))

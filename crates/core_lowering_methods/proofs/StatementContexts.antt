@@ -1,15 +1,16 @@
 -- What statements stand in, out of the steps in which it is made.
-use Rattle.std.proofs.Common.{◌≡◌, ℕ, List, length, take, drop, refl, ap, ◌∙◌}
+use Rattle.std.proofs.Common.{◌≡◌, ℕ, false, List, length, take, drop, refl, ap, ◌∙◌}
 use Rattle.racer_base.specs.declared.ids.Kind.{Kind}
 use Rattle.racer_base.specs.declared.ids.Kind.TheVariants.{Other}
 use Rattle.racer_base.specs.declared.ids.Place.{Place}
 use Rattle.java_tree.specs.declared.words.Ident.{Ident}
+use Rattle.java_tree.specs.Trees.{Ty}
 use Rattle.java_resolver.specs.declared.scope.Scope.{Scope}
 use Rattle.core_lowering_rules.specs.Trees.{Expr, Stmt, Stmts, Start, Groups, Resource, Catches, no_catch, catch_then}
 use Rattle.core_lowering_rules.specs.Trees.{Block, Locked, Try}
-use Rattle.core_lowering_rules.specs.Locks.{lock_kept, lock_noted}
-use Rattle.core_lowering_rules.specs.Context.{Folder, Context, Result, Target}
-use Rattle.core_lowering_rules.specs.Scopes.{declared, started, back_in, back_from, in_loop, in_switch, in_guard}
+use Rattle.core_lowering_rules.specs.Locks.{is_stored_in, lock_kept, lock_noted}
+use Rattle.core_lowering_rules.specs.Context.{Folder, Context, Result, Target, variable_kind_in}
+use Rattle.core_lowering_rules.specs.Scopes.{of_type, of_catch, started, back_in, back_from, in_loop, in_switch, in_guard}
 use Rattle.core_lowering_rules.specs.Scopes.{in_labelled, out_of_guard, with_resources, unlocked_in, after, after_all}
 use Rattle.core_lowering_rules.specs.Scopes.{after_groups, caught, caught_behind}
 use Rattle.core_lowering_rules.proofs.ScopeSteps.{sides_of}
@@ -47,11 +48,12 @@ inside-for context i s =
     inside-then context first (back_from first (after (in_loop first) s)) (inside-started context i)
     (inside-loop first s)
 
-pub inside-each : (context : Context) (k : Kind) (x : Ident) (s : Stmt) →
-    Inside context (back_from (declared context k x) (after (in_loop (declared context k x)) s))
-inside-each context k x s =
-    let first = declared context k x in
-    inside-then context first (back_from first (after (in_loop first) s)) (inside-declared context k x)
+pub inside-each : (context : Context) (t : Ty) (x : Ident) (s : Stmt) →
+    Inside context (back_from (of_type context t 0 x) (after (in_loop (of_type context t 0 x)) s))
+inside-each context t x s =
+    let first = of_type context t 0 x in
+    inside-then context first (back_from first (after (in_loop first) s))
+    (inside-declared context (variable_kind_in context t 0) x)
     (inside-loop first s)
 
 pub inside-switch : (context : Context) (gs : Groups) →
@@ -148,31 +150,34 @@ kept-locks before inside p level =
     ∙ ap (λ t. context_of before.folder before.place before.result before.given before.scope before.kinds t before
     inside) level
 
+inside-caught : (context : Context) (x : Ident) → Inside context (of_catch context x)
+inside-caught context x = inside-declared context (record { kind = Other; is_lock = false }) x
+
 -- behind a catch clause
 pub clause-passed : (before inside : Context) (x : Ident) (ss : Stmts) →
-    inside ≡ after_all (declared before Other x) ss → restored (kept before) inside ≡ passed_by before (x, ss)
+    inside ≡ after_all (of_catch before x) ss → restored (kept before) inside ≡ passed_by before (x, ss)
 clause-passed before inside x ss is =
-    let first = declared before Other x in
+    let first = of_catch before x in
     let last = after_all first ss in
     ap (restored (kept before)) is
     ∙ kept-locks before last
-    (inside-then before first last (inside-declared before Other x) (inside-after_all first ss))
+    (inside-then before first last (inside-caught before x) (inside-after_all first ss))
     (level-after_all first ss)
 
 -- of catch clauses nothing but what is known of locks is left
 pub caught-kept : (context : Context) (catches : Catches) → caught context catches ≡ caught_behind context catches
 caught-kept context no_catch = refl
 caught-kept context (catch_then x ss catches) =
-    caught-kept (lock_kept context (after_all (declared context Other x) ss)) catches
+    caught-kept (lock_kept context (after_all (of_catch context x) ss)) catches
 
 -- behind a locked try
 pub locked-left : (a b noted new : Context) (place : Place) (e : Expr) (ss : Stmts) (catches : Catches) →
-    b ≡ after a (Block ss) → noted ≡ lock_noted b e → new ≡ caught noted catches →
+    b ≡ after a (Block ss) → noted ≡ lock_noted b e (is_stored_in e ss) → new ≡ caught noted catches →
     new ≡ after a (Locked place e ss catches)
 locked-left a b noted new place e ss catches p q made =
     made
-    ∙ ap (λ (x : Context). caught x catches) (q ∙ ap (λ (x : Context). lock_noted x e) p)
-    ∙ caught-kept (lock_noted (after a (Block ss)) e) catches
+    ∙ ap (λ (x : Context). caught x catches) (q ∙ ap (λ (x : Context). lock_noted x e (is_stored_in e ss)) p)
+    ∙ caught-kept (lock_noted (after a (Block ss)) e (is_stored_in e ss)) catches
 
 -- behind a `try` without `finally`
 pub try-left : (a first new : Context) (rs : List Resource) (ss : Stmts) (catches : Catches) →

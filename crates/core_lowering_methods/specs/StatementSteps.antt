@@ -1,6 +1,5 @@
 -- No public contract rests on this: parts of statements with statements in them, as the code makes them.
 use Rattle.std.specs.Prelude.{◌≡◌, ℕ, false, List, ◌++◌, Option, length, map}
-use Rattle.racer_base.specs.declared.ids.Kind.TheVariants.{Other}
 use Rattle.racer_base.specs.declared.ids.VarId.{VarId}
 use Rattle.java_tree.specs.declared.words.Ident.{Ident}
 use Rattle.java_tree.specs.declared.statements.GroupTree.{GroupTree, out-GroupTree}
@@ -8,7 +7,7 @@ use Rattle.core_lowering_rules.specs.Trees.{Resource, Stmt, Stmts, pack_stmts}
 use Rattle.core_lowering_rules.specs.TreesOf.{stmt_of}
 use Rattle.core_lowering_rules.specs.Context.{Context, Code, repeated, guarded}
 use Rattle.core_lowering_rules.specs.Locks.{lock_kept}
-use Rattle.core_lowering_rules.specs.Scopes.{back_in, declared, after_all, in_loop, with_resources}
+use Rattle.core_lowering_rules.specs.Scopes.{back_in, of_catch, after_all, in_loop, with_resources}
 use Rattle.core_lowering_rules.specs.Statements.{broken, one_round, closed, stmt, stmts, begun_resources, last_of}
 use Rattle.core_lowering_rules.specs.Statements.{kept_null}
 use Rattle.core_lowering_parts.specs.StatementParts.{next_element}
@@ -47,4 +46,4 @@ guarded_by context exit variable first finally =
 
 -- behind a catch clause
 abbrev pub passed_by : Context → Ident × Stmts → Context
-passed_by context clause = lock_kept context (after_all (declared context Other clause.0) clause.1)
+passed_by context clause = lock_kept context (after_all (of_catch context clause.0) clause.1)

@@ -10,25 +10,24 @@ ghost use Rattle.core_lowering_rules.specs.Scopes.{after_all, back_in};
 ghost use Rattle.core_lowering_rules.specs.Statements.{closed, returned, stmts};
 ghost use Rattle.core_lowering_rules.specs.Methods as wanted;
 ghost use Rattle.core_lowering_rules.specs.Methods.{Default, Spelled, Unspelled, entered};
-ghost use Rattle.core_lowering_rules.specs.Methods.{body_of, code_in, kinds_in, end_of};
+ghost use Rattle.core_lowering_rules.specs.Methods.{body_of, code_in, kinds_in, end_of, outside_methods};
 ghost use Rattle.core_lowering_rules.specs.Methods.{has_other_lock, is_apart, is_past_limit, method_code, method_kinds};
 ghost use Rattle.core_lowering_drafts.specs.Sites.{numbered};
 ghost use Rattle.core_lowering_context.specs.Beginning.{inside};
 ghost use Rattle.core_lowering_methods.specs.Bodies.{object_begun, owner_pushed, under_lock, with_end};
 ghost use Rattle.core_lowering_methods.specs.Bodies.{whole_code, kept_code, Tells};
 ghost use Rattle.core_lowering_methods.specs.Extents.{is_past};
-ghost use Rattle.core_lowering_context.specs.Beginning.{left_at};
 ghost use Rattle.core_lowering_context.specs.Sources.{source_of};
 ghost use Rattle.core_lowering_context.specs.Views.{folder_of};
 
+use crate::beginnings::{default_fields, fields_of};
 use crate::statements::lower_block;
 use core_code::{Code, LockKind, Reason};
 use core_lowering_context::{Body, Context, Making, Source, enter, enter_spelled};
 use core_lowering_drafts::{Asked, Draft, Stop, Written, write, write_small};
-use core_lowering_expressions::begin_members;
 use core_lowering_parts::lower_return_nothing;
 use java_resolver::{Table, has_word};
-use java_tree::{MethodTree, ResultTree};
+use java_tree::MethodTree;
 use racer_base::{Items, Kind, Memory, Place};
 use std::alloc::Global;
 
@@ -70,44 +69,6 @@ fn write_all(alloc: Global, draft: &Draft, written: &mut Written) -> Result<(), 
 }
 
 // ---- what the code is made of
-
-/// Puts the fields of its object, of a constructor, without variables in scope.
-fn begin_object(
-    alloc: Global,
-    table: &Table,
-    statuses: &[Option<Reason>],
-    source: &Source,
-    m: &MethodTree,
-    making: &mut Making,
-) -> Result<(), Memory>
-    ensures { OnOk result (path.code_of making.new ≡ path.code_of making.old ++ object_begun
-        (left_at 0 (inside (folder_of table.now statuses.now) (source_of source.now) m.now))
-        source.now.members.now m.now) }
-{
-    if !matches!(m.result, ResultTree::Constructor) {
-        return Ok(());
-    }
-    let mut bare = enter_spelled(alloc, table, statuses, source, m)?;
-    bare.leave(0);
-    begin_members(alloc, &bare, source.members, making)
-}
-
-/// Of a constructor, the fields of its object.
-fn fields_of(
-    alloc: Global,
-    table: &Table,
-    statuses: &[Option<Reason>],
-    source: &Source,
-    m: &MethodTree,
-) -> Result<Draft, Memory>
-    ensures { IfOk result (λ fields. fields ≡ object_begun
-        (left_at 0 (inside (folder_of table.now statuses.now) (source_of source.now) m.now))
-        source.now.members.now m.now) }
-{
-    let mut making = Making::new(alloc);
-    begin_object(alloc, table, statuses, source, m, &mut making)?;
-    making.taken(alloc, 0)
-}
 
 /// The object or the class that a synchronized method is locked by (JLS 8.4.3.6).
 fn owner_of(alloc: Global, context: &Context, m: &MethodTree) -> Result<Draft, Memory>
@@ -164,7 +125,7 @@ fn parts_of(
     ensures context { OnOk result (context.new
         ≡ back_in context.old (after_all context.old (body_of m.now))) }
     ensures fields { IfOk result (λ parts. parts.fields
-        ≡ object_begun (left_at 0 context.old) source.now.members.now m.now) }
+        ≡ object_begun (outside_methods context.old) source.now.members.now m.now) }
     ensures owner { IfOk result (λ parts. parts.owner ≡ owner_pushed context.old m.now) }
     ensures block { IfOk result (λ parts. parts.block ≡ closed context.old (after_all context.old (body_of m.now))
         (stmts context.old (body_of m.now))) }
@@ -337,10 +298,8 @@ fn lower_default(
     ensures kinds { IfOk result (λ lowered. lowered.kinds ≡ kinds_in
         (entered (folder_of table.now statuses.now) (source_of source.now)) (source_of source.now) Default) }
 {
+    let fields = default_fields(alloc, table, statuses, source)?;
     let mut context = enter(alloc, table, statuses, source)?;
-    let mut making = Making::new(alloc);
-    begin_members(alloc, &context, source.members, &mut making)?;
-    let fields = making.taken(alloc, 0)?;
     let last = last_of(alloc, &mut context)?;
     let mut written = Written::new(alloc);
     write_all(alloc, &fields, &mut written)?;

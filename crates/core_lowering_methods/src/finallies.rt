@@ -12,7 +12,7 @@ use core_code::Op;
 use core_lowering_context::{Context, Making};
 use core_lowering_drafts::Exit;
 use core_lowering_expressions::{lower_expression, set};
-use core_lowering_locks::do_unlock_any;
+use core_lowering_locks::do_any_unlock;
 use core_lowering_parts::end_return;
 use java_tree::{Apart, ResourceTree, ResourcesTree, Statement};
 use racer_base::{Memory, VarId};
@@ -31,7 +31,8 @@ fn lower_resource(
 {
     let kind = context.type_kind(&resource.kind);
     context.note_closing(kind);
-    let v = context.declare(alloc, kind, &resource.name)?;
+    let known = context.variable_kind(&resource.kind, 0);
+    let v = context.declare(alloc, known, &resource.name)?;
     let given = lower_expression(alloc, context, &resource.value, draft)?;
     context.convert(draft, kind, given)?;
     set(context, v, draft)
@@ -75,7 +76,7 @@ pub fn lower_resources(
 pub fn note_unlocks(context: &mut Context, finally: &[Statement])
     ensures { context.new ≡ unlocked_in context.old (pack_stmts (map stmt_of finally.now)) }
 {
-    if do_unlock_any(finally) {
+    if do_any_unlock(finally) {
         context.note_other_lock();
     }
 }

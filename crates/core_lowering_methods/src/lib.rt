@@ -10,6 +10,7 @@
 //! statement is a function outside of the cycle of statements.
 #![tactic(auto)]
 
+mod beginnings;
 mod bodies;
 mod finallies;
 mod loops;

@@ -139,7 +139,7 @@ pub fn lower_for_each(
     let before = context.in_scope();
     let first = draft.len();
     lower_run(alloc, context, e, draft)?;
-    let v = context.declare(alloc, context.type_kind(t), x)?;
+    let v = context.declare(alloc, context.variable_kind(t, 0), x)?;
     lower_elements(alloc, context, s, v, draft)?;
     end_block(alloc, context, draft, before, first)
 }
@@ -153,7 +153,7 @@ fn is_loop(s: &Statement) -> bool
         Statement::While(_, _) => true,
         Statement::Do(_, _) => true,
         Statement::For(_, _, _, _) => true,
-        Statement::ForEach(_, _, _, _, _) => true,
+        Statement::ForEach(_, _, _) => true,
         Statement::Labelled(_, inner) => is_loop(inner),
         Statement::Block(_) => false,
         Statement::Local(_) => false,
@@ -168,6 +168,7 @@ fn is_loop(s: &Statement) -> bool
         Statement::Continue(_) => false,
         Statement::Assert(_, _) => false,
         Statement::Switch(_, _) => false,
+        Statement::LocalClass(_, _) => false,
         Statement::Try(_) => false,
     }
 }

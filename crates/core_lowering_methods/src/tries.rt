@@ -14,6 +14,7 @@ use core_lowering_context::{Context, Making};
 use core_lowering_expressions::lower_expression;
 use core_lowering_locks_pairs::Lock;
 use core_lowering_parts::{end_block, end_clause, end_locked};
+use java_resolver::VariableKind;
 use java_tree::{CatchTree, Statement, TryTree};
 use racer_base::{Kind, Memory};
 use std::alloc::Global;
@@ -97,9 +98,10 @@ pub fn lower_locked(
         ++ stmt context.old (under (lock_seen lock.entry) tried.now)) }
 {
     lower_expression(alloc, context, lock.on, draft)?;
-    let body = draft.len();
-    lower_block(alloc, context, tried.body.as_slice(), draft)?;
-    end_locked(alloc, context, lock, body, draft)?;
+    let body = tried.body.as_slice();
+    let at = draft.len();
+    lower_block(alloc, context, body, draft)?;
+    end_locked(alloc, context, lock, body, at, draft)?;
     pass_clauses(alloc, context, tried.clauses.as_slice(), draft)
 }
 
@@ -132,7 +134,11 @@ fn pass_clause(
 {
     let before = context.kept(alloc)?;
     let at = draft.len();
-    context.declare(alloc, Kind::Other, &clause.parameter.name)?;
+    let known = VariableKind {
+        kind: Kind::Other,
+        is_lock: false,
+    };
+    context.declare(alloc, known, &clause.parameter.name)?;
     lower_statements(alloc, context, clause.body.as_slice(), draft)?;
     end_clause(alloc, context, before, at, draft)
 }

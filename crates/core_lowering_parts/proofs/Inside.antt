@@ -14,6 +14,7 @@ pub record Inside (before inside : Context) : Type 0 where
   pub given : inside.given ≡ before.given
   pub class : inside.scope.class ≡ before.scope.class
   pub is_static : inside.scope.is_static ≡ before.scope.is_static
+  pub hidden : inside.scope.hidden ≡ before.scope.hidden
   pub more : List ScopeVariable
   pub variables : inside.scope.variables ≡ before.scope.variables ++ more
   pub more_kinds : List Kind
@@ -28,6 +29,7 @@ inside-same context =
       given = refl;
       class = refl;
       is_static = refl;
+      hidden = refl;
       more = [];
       variables = sym (append-nil context.scope.variables);
       more_kinds = [];
@@ -44,6 +46,7 @@ inside-with_variable context guard outer =
       given = refl;
       class = refl;
       is_static = refl;
+      hidden = refl;
       more = [];
       variables = sym (append-nil context.scope.variables);
       more_kinds = context.given ∷ [];

@@ -2,15 +2,15 @@
 ghost use Rattle.std.specs.Prelude.{◌≡◌, ◌++◌, OnOk, map, option_map};
 ghost use Rattle.java_tree.specs.View.{ty_of};
 ghost use Rattle.core_lowering_rules.specs.TreesOf.{init_of, variable_of, start_of};
-ghost use Rattle.core_lowering_rules.specs.Context.{type_kind};
-ghost use Rattle.core_lowering_rules.specs.Scopes.{next_variable, declared, all_declared, started};
+ghost use Rattle.core_lowering_rules.specs.Context.{variable_kind_in};
+ghost use Rattle.core_lowering_rules.specs.Scopes.{next_variable, of_type, all_declared, started};
 ghost use Rattle.core_lowering_rules.specs.Statements.{begun, begun_all};
 ghost use Rattle.core_lowering_rules.specs.Statements as lowering;
 ghost use Rattle.core_lowering_context.specs.Drafts.{code_of};
 
 use core_lowering_context::{Context, Making};
 use core_lowering_expressions::{lower_initialiser, lower_run_all, set};
-use java_tree::{Initialiser, LocalsTree, StartTree, VariableTree};
+use java_tree::{Initialiser, LocalsTree, StartTree, TypeTree, VariableTree};
 use racer_base::{Kind, Memory, VarId};
 use std::alloc::Global;
 
@@ -34,37 +34,41 @@ fn lower_begin(
     set(context, v, draft)
 }
 
-/// A variable of this kind, which is in scope from its initialiser on.
+/// A variable of this type, which is in scope from its initialiser on.
 fn lower_variable(
     alloc: Global,
     context: &mut Context,
-    kind: Kind,
+    t: &TypeTree,
     variable: &VariableTree,
     draft: &mut Making,
 ) -> Result<(), Memory>
-    ensures context { OnOk result (context.new ≡ declared context.old kind variable.now.name) }
+    ensures context { OnOk result (context.new
+        ≡ of_type context.old (ty_of t.now) variable.now.arrays variable.now.name) }
     ensures code { OnOk result (code_of draft.new ≡ code_of draft.old
-        ++ begun (declared context.old kind variable.now.name) (next_variable context.old) kind
+        ++ begun (of_type context.old (ty_of t.now) variable.now.arrays variable.now.name) (next_variable context.old)
+        (variable_kind_in context.old (ty_of t.now) variable.now.arrays).kind
         (option_map init_of variable.now.initialiser)) }
 {
-    let v = context.declare(alloc, kind, &variable.name)?;
-    lower_begin(alloc, context, v, kind, &variable.initialiser, draft)
+    let known = context.variable_kind(t, variable.arrays);
+    let v = context.declare(alloc, known, &variable.name)?;
+    lower_begin(alloc, context, v, known.kind, &variable.initialiser, draft)
 }
 
-/// Variables of this kind.
+/// Variables of this type.
 fn lower_variables(
     alloc: Global,
     context: &mut Context,
-    kind: Kind,
+    t: &TypeTree,
     variables: &[VariableTree],
     draft: &mut Making,
 ) -> Result<(), Memory>
-    ensures context { OnOk result (context.new ≡ all_declared context.old kind (map variable_of variables.now)) }
+    ensures context { OnOk result (context.new
+        ≡ all_declared context.old (ty_of t.now) (map variable_of variables.now)) }
     ensures code { OnOk result (code_of draft.new ≡ code_of draft.old
-        ++ begun_all context.old kind (map variable_of variables.now)) }
+        ++ begun_all context.old (ty_of t.now) (map variable_of variables.now)) }
 {
     for variable in variables {
-        lower_variable(alloc, context, kind, variable, draft)?;
+        lower_variable(alloc, context, t, variable, draft)?;
     }
     Ok(())
 }
@@ -77,14 +81,12 @@ pub fn lower_locals(
     draft: &mut Making,
 ) -> Result<(), Memory>
     ensures context { OnOk result (context.new
-        ≡ all_declared context.old (type_kind context.old (ty_of locals.now.kind))
-        (map variable_of locals.now.variables)) }
+        ≡ all_declared context.old (ty_of locals.now.kind) (map variable_of locals.now.variables)) }
     ensures code { OnOk result (code_of draft.new ≡ code_of draft.old
-        ++ begun_all context.old (type_kind context.old (ty_of locals.now.kind))
-        (map variable_of locals.now.variables)) }
+        ++ begun_all context.old (ty_of locals.now.kind) (map variable_of locals.now.variables)) }
 {
-    let kind = context.type_kind(&locals.kind);
-    lower_variables(alloc, context, kind, locals.variables.as_slice(), draft)
+    let variables = locals.variables.as_slice();
+    lower_variables(alloc, context, &locals.kind, variables, draft)
 }
 
 /// What stands before the first `;` of a `for` (JLS 14.14.1).

@@ -58,8 +58,9 @@ pub record CoreFact : Type 1 where
       code.Holds (tree.Sync (lock_at k p) (in_sequence a) ∷ []) (tree.Sync (lock_at k p) (in_sequence c) ∷ [])
   pub single : (p : Place) (o : CoreOp) → tests.is_place p ≡ true →
       is_named tests.is_class tests.is_method o ≡ true → code.Holds (one p o) (one p o)
-  pub called : (p : Place) (m : MethodId) (n : ℕ) (a b : Bool) → tests.is_place p ≡ true → tests.is_method m ≡ true →
-      code.Holds (one p (cond a (Call m n) (Unread m n))) (one p (cond b (Call m n) (Unread m n)))
+  pub called : (p : Place) (m : MethodId) (j k : ℕ) (a b : Bool) → tests.is_place p ≡ true →
+      tests.is_method m ≡ true →
+      code.Holds (one p (cond a (Call m j) (Unread m j))) (one p (cond b (Call m k) (Unread m k)))
   pub missing : (p : Place) (o : CoreOp) → tests.is_place p ≡ true →
       is_named tests.is_class tests.is_method o ≡ true → named_by o ≡ [] → code.Holds [] (one p o)
   pub added : (p : Place) (o : CoreOp) → tests.is_place p ≡ true →
@@ -154,11 +155,11 @@ module _ (f : CoreFact) where
         chosen = λ a b c d p q. value-choices whole a b c d p q;
         single = λ p o there h.
             value-ops whole p o o (normal o h) (normal o h) (op-ended p o there (named o h));
-        called = λ p m n a b there h.
-            value-ops whole p (cond a (Call m n) (Unread m n)) (cond b (Call m n) (Unread m n)) (call-normal m n a)
-            (call-normal m n b) (record {
-              fact = f.called p m n a b there h;
-              same_end = call-goes_on p m n a ∙ sym (call-goes_on p m n b);
+        called = λ p m j k a b there h.
+            value-ops whole p (cond a (Call m j) (Unread m j)) (cond b (Call m k) (Unread m k)) (call-normal m j a)
+            (call-normal m k b) (record {
+              fact = f.called p m j k a b there h;
+              same_end = call-goes_on p m j a ∙ sym (call-goes_on p m k b);
             });
         missing = λ p o there h quiet.
             value-missing whole p o (normal o h)

@@ -10,6 +10,7 @@ use Rattle.java_tree.specs.declared.statements.TryTree.{TryTree, roll-TryTree, m
 use Rattle.java_tree.specs.declared.statements.Statement.{Statement, roll-Statement, map-Statement}
 use Rattle.java_tree.specs.declared.statements.Statement.TheOpen as statement
 use Rattle.java_tree.specs.declared.statements.Statement.TheFolds.{ind-Statement, the_lemmas}
+use Rattle.java_tree.specs.KeptPlaces.{Marks, some_onto, modifier_marks, types_places, behind_name}
 use Rattle.java_tree.specs.KeptPlaces.{Places, Puts, each_puts, maybe_puts, expr_places, init_places}
 use Rattle.java_tree.specs.KeptPlaces.{variable_places, locals_places, start_places, stmt_places, all_places}
 use Rattle.java_tree.specs.KeptPlaces.{ty_places, name_places, resource_places, resources_places, label_places}
@@ -17,8 +18,10 @@ use Rattle.java_tree.specs.KeptPlaces as kept
 use Rattle.java_tree.specs.Trees as view
 use Rattle.java_tree.specs.View.{ty_of}
 use Rattle.java_tree.specs.View as viewed
+use Rattle.java_tree.proofs.TypeCounts.{ty_count}
+use Rattle.core_lowering_rules.specs.Conditions.{kept_of}
 use Rattle.core_lowering_rules.specs.Trees.{Variable, Declares, Runs, Resource, Stmt, Run, Local, If, IfElse, While, Do}
-use Rattle.core_lowering_rules.specs.Trees.{For, ForEach, Sync, Return, Block, Throw, Labelled, Assert, Switch}
+use Rattle.core_lowering_rules.specs.Trees.{For, ForEach, Sync, Return, Block, Throw, Labelled, Assert, Switch, Empty}
 use Rattle.core_lowering_rules.specs.Trees.{expr_then}
 use Rattle.core_lowering_rules.specs.Trees.{Expr, group_then, put_before, pack_exprs, pack_stmts, pack_catches}
 use Rattle.core_lowering_rules.specs.Trees.{pack_groups}
@@ -26,35 +29,35 @@ use Rattle.core_lowering_rules.specs.Trees as trees
 use Rattle.core_lowering_rules.specs.TreesOf.{expr_of, init_of, condition_of, is_true_in, variable_of, start_of}
 use Rattle.core_lowering_rules.specs.TreesOf.{resource_of, resources_of, label_of, tried, stmt_of}
 use Rattle.core_lowering_rules.specs.TreesOf as lowered
-use Rattle.core_lowering_rules.proofs.FilledTrees.{ident, one, two, behind, caught, caught_then}
+use Rattle.core_lowering_rules.proofs.FilledTrees.{ident, one, two, behind, skip, caught, caught_then}
 use Rattle.core_lowering_rules.proofs.FilledTrees.{Filled, filled, one-is, two-is, three-is, four-is, expr, exprs}
 use Rattle.core_lowering_rules.proofs.FilledTrees.{each, maybe, stmt, stmts, clauses}
 use Rattle.core_lowering_rules.proofs.FilledTrees.{clause, condition, jumped}
 use Rattle.core_lowering_rules.proofs.FilledTrees.{label, groups}
-use Rattle.core_lowering_rules.proofs.FilledExpressions.{behind-type, expr-is}
+use Rattle.core_lowering_rules.proofs.FilledExpressions.{type-behind, types-passed, expr-is}
+use Rattle.core_lowering_rules.proofs.KeptMarks.{each-passed, modifier-passed, tokens-passed}
 use Rattle.core_lowering_rules.proofs.FilledParts.{some-filled, all-filled, locals-filled, start-filled, condition-is}
 use Rattle.core_lowering_rules.proofs.FilledParts.{maybe-condition, name-filled, resources-filled, labels-filled}
-use Rattle.core_lowering_rules.proofs.FilledParts.{types-behind}
 
 -- ---- statements
 
 abbrev pub HasStmt : Statement → Type 0
-HasStmt s = (rest : Places) → stmt (viewed.stmt_of s) (stmt_places s rest) ≡ filled (stmt_of s) rest
+HasStmt s = (rest : Marks) → stmt (viewed.stmt_of s) (kept_of (stmt_places s rest)) ≡ filled (stmt_of s) (kept_of rest)
 
 -- catch clauses, groups, and a `try` of its parts
 abbrev HasCatch : CatchTree → Type 0
 HasCatch c =
-    (rest : Places) → clause (viewed.catch_of c) (kept.catch_places c rest) ≡ filled (lowered.catch_of c) rest
+    (rest : Marks) → clause (viewed.catch_of c) (kept_of (kept.catch_places c rest)) ≡ filled (lowered.catch_of c) (kept_of rest)
 
 abbrev group_seen : viewed.Group → Places → Filled lowered.Group
 group_seen g ps = two (λ ls ss. (ls, ss)) (each label g.0 ps) (stmts g.1)
 
 abbrev HasGroup : GroupTree → Type 0
 HasGroup g =
-    (rest : Places) → group_seen (viewed.group_of g) (kept.group_places g rest) ≡ filled (lowered.group_of g) rest
+    (rest : Marks) → group_seen (viewed.group_of g) (kept_of (kept.group_places g rest)) ≡ filled (lowered.group_of g) (kept_of rest)
 
 abbrev HasTry : TryTree → Type 0
-HasTry t = (rest : Places) → stmt (viewed.try_of t) (kept.try_places t rest) ≡ filled (lowered.try_of t) rest
+HasTry t = (rest : Marks) → stmt (viewed.try_of t) (kept_of (kept.try_places t rest)) ≡ filled (lowered.try_of t) (kept_of rest)
 
 abbrev Stmts : Type 0
 Stmts = (s : Statement) × HasStmt s
@@ -106,9 +109,9 @@ of s = stmt (viewed.stmt_of s.0)
 
 -- ---- one layer
 
-parts-filled : (ss : List Stmts) (rest : Places)
-    → stmts (view.pack_stmts (map viewed.stmt_of (plain_all ss))) (each_puts (map stmt_places (plain_all ss)) rest)
-    ≡ filled (pack_stmts (map stmt_of (plain_all ss))) rest
+parts-filled : (ss : List Stmts) (rest : Marks)
+    → stmts (view.pack_stmts (map viewed.stmt_of (plain_all ss))) (kept_of (each_puts (map stmt_places (plain_all ss)) rest))
+    ≡ filled (pack_stmts (map stmt_of (plain_all ss))) (kept_of rest)
 parts-filled [] rest = refl
 parts-filled (s ∷ ss) rest =
     two-is put_before (stmts (view.pack_stmts (map viewed.stmt_of (plain_all ss))))
@@ -120,17 +123,17 @@ plain_groups gs = map (λ g. g.0) gs
 abbrev before_groups : lowered.Group → trees.Groups → trees.Groups
 before_groups g gs = group_then g.0 g.1 gs
 
-groups-filled : (gs : List Groups) (rest : Places)
+groups-filled : (gs : List Groups) (rest : Marks)
     → groups (viewed.pack_groups (map viewed.group_of (plain_groups gs)))
-    (each_puts (map kept.group_places (plain_groups gs)) rest)
-    ≡ filled (pack_groups (map lowered.group_of (plain_groups gs))) rest
+    (kept_of (each_puts (map kept.group_places (plain_groups gs)) rest))
+    ≡ filled (pack_groups (map lowered.group_of (plain_groups gs))) (kept_of rest)
 groups-filled [] rest = refl
 groups-filled (g ∷ gs) rest =
     two-is before_groups (groups (viewed.pack_groups (map viewed.group_of (plain_groups gs))))
     (g.1 (each_puts (map kept.group_places (plain_groups gs)) rest)) (groups-filled gs rest)
 
-stmt-filled : (y : Layer) (rest : Places)
-    → stmt (viewed_in (plain y)) (places_in (plain y) rest) ≡ filled (lowered_in (plain y)) rest
+stmt-filled : (y : Layer) (rest : Marks)
+    → stmt (viewed_in (plain y)) (kept_of (places_in (plain y) rest)) ≡ filled (lowered_in (plain y)) (kept_of rest)
 stmt-filled (statement.Block ss) rest = one-is Block (parts-filled ss.items rest)
 stmt-filled (statement.Local l) rest = one-is (Local (ty_of l.kind)) (locals-filled l rest)
 stmt-filled (statement.Expr e) rest = one-is Run (expr-is e rest)
@@ -148,17 +151,20 @@ stmt-filled (statement.For i c updates s) rest =
     (exprs (view.pack_exprs (map viewed.expr_of updates.items))) (of s.value)
     (start-filled i (maybe_puts (option_map expr_places c) third)) (maybe-condition c third)
     (all-filled updates.items last) (s.value.1 rest)
-stmt-filled (statement.ForEach is_final t x e s) rest =
-    let last = expr_places e (stmt_places s.value.0 rest) in
-    behind-type t
-    (λ ps. two (ForEach (ty_of t) (ident x.text ps)) (expr (viewed.expr_of e) (behind ps)) (of s.value))
-    (x.place ∷ last)
-    (two-is (ForEach (ty_of t) x) (of s.value) (expr-is e (stmt_places s.value.0 rest)) (s.value.1 rest))
+stmt-filled (statement.ForEach v e s) rest =
+    let last = name_places v.name (expr_places e (stmt_places s.value.0 rest)) in
+    let each_of = λ (ps : Places). two (ForEach (ty_of v.kind) (ident v.name.text ps)) (expr (viewed.expr_of e) (behind ps))
+    (of s.value) in
+    ap (λ ps. each_of (skip (ty_count (ty_of v.kind)) ps))
+    (each-passed modifier_marks modifier-passed v.modifiers (some_onto (ty_places v.kind) last))
+    ∙ type-behind v.kind each_of last
+    (two-is (ForEach (ty_of v.kind) v.name) (of s.value) (expr-is e (stmt_places s.value.0 rest)) (s.value.1 rest))
 stmt-filled (statement.Sync place e ss) rest =
     two-is (Sync place) (stmts (view.pack_stmts (map viewed.stmt_of (plain_all ss.items))))
     (expr-is e (each_puts (map stmt_places (plain_all ss.items)) rest)) (parts-filled ss.items rest)
 stmt-filled (statement.Return e) rest = one-is Return (some-filled e rest)
 stmt-filled statement.Empty rest = refl
+stmt-filled (statement.LocalClass x ts) rest = ap (filled Empty) (tokens-passed (behind_name ts) rest)
 stmt-filled (statement.Do s e) rest =
     two-is Do (condition (viewed.expr_of e)) (s.value.1 (expr_places e rest)) (condition-is e rest)
 stmt-filled (statement.Throw place e) rest = one-is (Throw place) (expr-is e rest)
@@ -178,9 +184,9 @@ stmt-case y rest =
     let places : stmt_places (roll-Statement (plain y)) ≡ places_in (plain y) = search (rules, the_lemmas) in
     let seen : viewed.stmt_of (roll-Statement (plain y)) ≡ viewed_in (plain y) = search (rules, the_lemmas) in
     let lower : stmt_of (roll-Statement (plain y)) ≡ lowered_in (plain y) = search (rules, the_lemmas) in
-    ap (λ (f : Puts). stmt (viewed.stmt_of (roll-Statement (plain y))) (f rest)) places
-    ∙ ap (λ v. stmt v (places_in (plain y) rest)) seen ∙ stmt-filled y rest
-    ∙ ap (λ (t : Stmt). filled t rest) (sym lower)
+    ap (λ (f : Puts). stmt (viewed.stmt_of (roll-Statement (plain y))) (kept_of (f rest))) places
+    ∙ ap (λ v. stmt v (kept_of (places_in (plain y) rest))) seen ∙ stmt-filled y rest
+    ∙ ap (λ (t : Stmt). filled t (kept_of rest)) (sym lower)
 
 pub stmt-has : (x : Plain) (y : Layer) → plain y ≡ x → HasStmt (roll-Statement x)
 stmt-has x y is = subst (λ z. HasStmt (roll-Statement z)) is (stmt-case y)
@@ -216,14 +222,16 @@ catch_lowered_in x =
     (map-CatchTree Statement CatchTree GroupTree TryTree Stmt lowered.Clause lowered.Group Stmt stmt_of lowered.catch_of
     lowered.group_of lowered.try_of x)
 
-catch-filled : (y : CatchLayer) (rest : Places)
-    → clause (catch_viewed_in (plain_catch y)) (catch_places_in (plain_catch y) rest)
-    ≡ filled (catch_lowered_in (plain_catch y)) rest
+catch-filled : (y : CatchLayer) (rest : Marks)
+    → clause (catch_viewed_in (plain_catch y)) (kept_of (catch_places_in (plain_catch y) rest))
+    ≡ filled (catch_lowered_in (plain_catch y)) (kept_of rest)
 catch-filled y rest =
     let p = y.parameter in
     let body = each_puts (map stmt_places (plain_all y.body.items)) rest in
     let seen = stmts (view.pack_stmts (map viewed.stmt_of (plain_all y.body.items))) in
-    ap (λ qs. one (caught (ident p.name.text qs)) (seen (behind qs))) (types-behind p.types (p.name.place ∷ body))
+    let from = types_places p.types (name_places p.name body) in
+    ap (λ qs. clause (catch_viewed_in (plain_catch y)) qs) (each-passed modifier_marks modifier-passed p.modifiers from)
+    ∙ ap (λ qs. one (caught (ident p.name.text qs)) (seen (behind qs))) (types-passed p.types (name_places p.name body))
     ∙ one-is (caught p.name) (parts-filled y.body.items rest)
 
 pub catch-case : (y : CatchLayer) → HasCatch (roll-CatchTree (plain_catch y))
@@ -232,10 +240,10 @@ catch-case y rest =
     let places : kept.catch_places (roll-CatchTree x) ≡ catch_places_in x = search (rules, the_lemmas) in
     let seen : viewed.catch_of (roll-CatchTree x) ≡ catch_viewed_in x = search (rules, the_lemmas) in
     let lower : lowered.catch_of (roll-CatchTree x) ≡ catch_lowered_in x = search (rules, the_lemmas) in
-    ap (λ (f : Puts). clause (viewed.catch_of (roll-CatchTree x)) (f rest)) places
-    ∙ ap (λ v. clause v (catch_places_in x rest)) seen
+    ap (λ (f : Puts). clause (viewed.catch_of (roll-CatchTree x)) (kept_of (f rest))) places
+    ∙ ap (λ v. clause v (kept_of (catch_places_in x rest))) seen
     ∙ catch-filled y rest
-    ∙ ap (λ (c : lowered.Clause). filled c rest) (sym lower)
+    ∙ ap (λ (c : lowered.Clause). filled c (kept_of rest)) (sym lower)
 
 pub catch-has : (x : PlainCatch) (y : CatchLayer) → plain_catch y ≡ x → HasCatch (roll-CatchTree x)
 catch-has x y is = subst (λ z. HasCatch (roll-CatchTree z)) is (catch-case y)
@@ -271,9 +279,9 @@ group_lowered_in x =
     (map-GroupTree Statement CatchTree GroupTree TryTree Stmt lowered.Clause lowered.Group Stmt stmt_of
     lowered.catch_of lowered.group_of lowered.try_of x)
 
-group-filled : (y : GroupLayer) (rest : Places)
-    → group_seen (group_viewed_in (plain_group y)) (group_places_in (plain_group y) rest)
-    ≡ filled (group_lowered_in (plain_group y)) rest
+group-filled : (y : GroupLayer) (rest : Marks)
+    → group_seen (group_viewed_in (plain_group y)) (kept_of (group_places_in (plain_group y) rest))
+    ≡ filled (group_lowered_in (plain_group y)) (kept_of rest)
 group-filled y rest =
     two-is (λ (ls : List (Option Expr)) (ss : trees.Stmts). (ls, ss))
     (stmts (view.pack_stmts (map viewed.stmt_of (plain_all y.body.items))))
@@ -286,9 +294,9 @@ group-case y rest =
     let places : kept.group_places (roll-GroupTree x) ≡ group_places_in x = search (rules, the_lemmas) in
     let seen : viewed.group_of (roll-GroupTree x) ≡ group_viewed_in x = search (rules, the_lemmas) in
     let lower : lowered.group_of (roll-GroupTree x) ≡ group_lowered_in x = search (rules, the_lemmas) in
-    ap (λ (f : Puts). group_seen (viewed.group_of (roll-GroupTree x)) (f rest)) places
-    ∙ ap (λ (v : viewed.Group). group_seen v (group_places_in x rest)) seen ∙ group-filled y rest
-    ∙ ap (λ (g : lowered.Group). filled g rest) (sym lower)
+    ap (λ (f : Puts). group_seen (viewed.group_of (roll-GroupTree x)) (kept_of (f rest))) places
+    ∙ ap (λ (v : viewed.Group). group_seen v (kept_of (group_places_in x rest))) seen ∙ group-filled y rest
+    ∙ ap (λ (g : lowered.Group). filled g (kept_of rest)) (sym lower)
 
 group-has : (x : PlainGroup) (y : GroupLayer) → plain_group y ≡ x → HasGroup (roll-GroupTree x)
 group-has x y is = subst (λ z. HasGroup (roll-GroupTree z)) is (group-case y)
@@ -327,10 +335,10 @@ try_lowered_in x =
 abbrev plain_catches : List Catches → List CatchTree
 plain_catches cs = map (λ c. c.0) cs
 
-clauses-filled : (cs : List Catches) (rest : Places)
+clauses-filled : (cs : List Catches) (rest : Marks)
     → clauses (viewed.pack_rows (map viewed.catch_of (plain_catches cs)))
-    (each_puts (map kept.catch_places (plain_catches cs)) rest)
-    ≡ filled (pack_catches (map lowered.catch_of (plain_catches cs))) rest
+    (kept_of (each_puts (map kept.catch_places (plain_catches cs)) rest))
+    ≡ filled (pack_catches (map lowered.catch_of (plain_catches cs))) (kept_of rest)
 clauses-filled [] rest = refl
 clauses-filled (c ∷ cs) rest =
     two-is caught_then (clauses (viewed.pack_rows (map viewed.catch_of (plain_catches cs))))
@@ -341,8 +349,8 @@ of_parts rs body cs finally = record { resources = rs; body = body; clauses = cs
 
 abbrev TryFilled : TryLayer → Type 0
 TryFilled y =
-    (rest : Places)
-    → stmt (try_viewed_in (plain_try y)) (try_places_in (plain_try y) rest) ≡ filled (try_lowered_in (plain_try y)) rest
+    (rest : Marks)
+    → stmt (try_viewed_in (plain_try y)) (kept_of (try_places_in (plain_try y) rest)) ≡ filled (try_lowered_in (plain_try y)) (kept_of rest)
 
 parts-tried : (rs : Option ResourcesTree) (body : Vec Stmts Global) (cs : Vec Catches Global)
     (finally : Option (Vec Stmts Global)) → TryFilled (of_parts rs body cs finally)
@@ -371,9 +379,9 @@ try-case y rest =
     let places : kept.try_places (roll-TryTree x) ≡ try_places_in x = search (rules, the_lemmas) in
     let seen : viewed.try_of (roll-TryTree x) ≡ try_viewed_in x = search (rules, the_lemmas) in
     let lower : lowered.try_of (roll-TryTree x) ≡ try_lowered_in x = search (rules, the_lemmas) in
-    ap (λ (f : Puts). stmt (viewed.try_of (roll-TryTree x)) (f rest)) places
-    ∙ ap (λ v. stmt v (try_places_in x rest)) seen ∙ try-filled y rest
-    ∙ ap (λ (t : Stmt). filled t rest) (sym lower)
+    ap (λ (f : Puts). stmt (viewed.try_of (roll-TryTree x)) (kept_of (f rest))) places
+    ∙ ap (λ v. stmt v (kept_of (try_places_in x rest))) seen ∙ try-filled y rest
+    ∙ ap (λ (t : Stmt). filled t (kept_of rest)) (sym lower)
 
 pub try-has : (x : PlainTry) (y : TryLayer) → plain_try y ≡ x → HasTry (roll-TryTree x)
 try-has x y is = subst (λ z. HasTry (roll-TryTree z)) is (try-case y)
@@ -383,9 +391,9 @@ try-has x y is = subst (λ z. HasTry (roll-TryTree z)) is (try-case y)
 pub stmt-is : (s : Statement) → HasStmt s
 stmt-is = ind-Statement HasStmt HasCatch HasGroup HasTry stmt-has catch-has group-has try-has
 
-pub stmts-are : (ss : List Statement) (rest : Places)
-    → stmts (view.pack_stmts (map viewed.stmt_of ss)) (each_puts (map stmt_places ss) rest)
-    ≡ filled (pack_stmts (map stmt_of ss)) rest
+pub stmts-are : (ss : List Statement) (rest : Marks)
+    → stmts (view.pack_stmts (map viewed.stmt_of ss)) (kept_of (each_puts (map stmt_places ss) rest))
+    ≡ filled (pack_stmts (map stmt_of ss)) (kept_of rest)
 stmts-are [] rest = refl
 stmts-are (s ∷ ss) rest =
     two-is put_before (stmts (view.pack_stmts (map viewed.stmt_of ss)))

@@ -4,11 +4,12 @@ use Rattle.std.proofs.Common.{◌≡◌, ℕ, suc, zero, List, [], ◌∷◌, �
 use Rattle.racer_base.specs.declared.ids.Place.{Place}
 use Rattle.java_tree.specs.declared.words.Ident.{Ident}
 use Rattle.java_tree.specs.KeptPlaces.{Places}
-use Rattle.java_tree.specs.Trees.{Ty}
+use Rattle.java_tree.specs.Trees.{Ty, Typed, Named as NamedType, no_part, Arguments}
 use Rattle.java_tree.specs.Trees as view
-use Rattle.java_tree.proofs.TypeCounts.{ty_count}
+use Rattle.java_tree.specs.View as viewed
+use Rattle.java_tree.proofs.TypeCounts.{ty_count, angled_count}
 use Rattle.core_lowering_rules.specs.Trees.{Expr, This, ClassOf, Read, Unary, Cast, Conditional, Count, Call, CallOn}
-use Rattle.core_lowering_rules.specs.Trees.{New}
+use Rattle.core_lowering_rules.specs.Trees.{New, NewBody, ThisOf, Refer, Referee, ToExpr, ToType, Unknown}
 use Rattle.core_lowering_rules.specs.Trees.{NewArray, NewItems, Paren, Named, Selected, Element, Exprs, no_expr}
 use Rattle.core_lowering_rules.specs.Trees.{expr_then}
 use Rattle.core_lowering_rules.specs.Trees.{Init, Value, Items, Inits, no_init, init_then, Variable, Start, Declares}
@@ -104,6 +105,30 @@ filled_names (x ∷ xs) ps = one (λ (l : List Ident). ident x ps ∷ l) (filled
 abbrev pub then_name : {A B : Type 0} → (A → Ident → B) → List ℕ → Filled A → Filled B
 then_name f x g = filled (f g.tree (ident x g.left)) (behind g.left)
 
+abbrev pub skip_types : List Ty → Places → Places
+skip_types [] ps = ps
+skip_types (t ∷ ts) ps = skip_types ts (skip (ty_count t) ps)
+
+abbrev pub first_seen : List Ty → Ty
+first_seen [] = Typed (NamedType no_part) 0
+first_seen (t ∷ ts) = t
+
+-- the types in angle brackets behind a tree
+abbrev pub skip_angled : Option Arguments → Places → Places
+skip_angled None ps = ps
+skip_angled (Some types) ps = skip (angled_count types) ps
+
+abbrev pub behind_angled : {A : Type 0} → Option Arguments → Filled A → Filled A
+behind_angled types g = filled g.tree (skip_angled types g.left)
+
+-- and the name that may stand behind these
+abbrev pub skip_name : Option (List ℕ) → Places → Places
+skip_name None ps = ps
+skip_name (Some x) ps = behind ps
+
+abbrev pub refers : Option Arguments → Option (List ℕ) → Filled Referee → Filled Expr
+refers types x g = filled (Refer g.tree) (skip_name x (skip_angled types g.left))
+
 -- a name and arguments behind a tree
 abbrev pub called : Filled Expr → List ℕ → (Places → Filled Exprs) → Filled Expr
 called g x h = one (CallOn g.tree (ident x g.left)) (h (behind g.left))
@@ -115,7 +140,7 @@ abbrev mutual
   expr (view.Binary a op b) ps = two (binary op) (expr a ps) (expr b)
   expr (view.InstanceOf a t) ps = passing (ty_count t) (one Unary (expr a ps))
   expr (view.Prefix op a) ps = one (prefix op) (expr a ps)
-  expr (view.Cast t a) ps = one (Cast t) (expr a (skip (ty_count t) ps))
+  expr (view.Cast ts a) ps = one (Cast (first_seen ts)) (expr a (skip_types ts ps))
   expr (view.Postfix a op) ps = one (λ x. Count (access_of x)) (expr a ps)
   expr (view.Literal k text) ps = filled (literal k text) ps
   expr view.This ps = filled This ps
@@ -124,11 +149,19 @@ abbrev mutual
   expr (view.Field a x) ps = then_name (λ t i. Read (Selected t i)) x (expr a ps)
   expr (view.Index a i) ps = two (λ x y. Read (Element x y)) (expr a ps) (expr i)
   expr (view.Call x all) ps = one (Call (ident x ps)) (exprs all (behind ps))
-  expr (view.CallOn a x all) ps = called (expr a ps) x (exprs all)
+  expr (view.CallOn a types x all) ps = called (behind_angled types (expr a ps)) x (exprs all)
   expr (view.ClassOf xs) ps = one ClassOf (filled_names xs ps)
   expr (view.New t all) ps = one (New (first ps) t) (exprs all (skip (ty_count t) (behind ps)))
   expr (view.NewArray t lengths n) ps = one (NewArray (first ps)) (exprs lengths (skip (ty_count t) (behind ps)))
   expr (view.NewItems t n items) ps = one (NewItems (first ps)) (array items (skip (ty_count t) (behind ps)))
+  expr (view.NewBody t all body) ps = one (NewBody (first ps) t) (exprs all (skip (ty_count t) (behind ps)))
+  expr (view.Lambda parameters a) ps = one (λ x. Unknown) (expr a ps)
+  expr (view.BlockLambda parameters block) ps = filled Unknown ps
+  expr (view.Reference a types x) ps = refers types x (one ToExpr (expr a ps))
+  expr (view.TypeReference t types x) ps = refers types x (filled ToType (skip (ty_count t) ps))
+  expr (view.SuperReference types x) ps = refers types x (filled ToType ps)
+  expr (view.PlainClass t) ps = filled Unknown (skip (ty_count t) ps)
+  expr (view.ThisOf xs) ps = one ThisOf (filled_names xs ps)
 
   pub exprs : view.Exprs → Places → Filled Exprs
   exprs view.no_expr ps = filled no_expr ps
@@ -145,6 +178,16 @@ abbrev mutual
   init (view.Value e) ps = one Value (expr e ps)
   init (view.Items items) ps = one Items (array items ps)
 
+-- what stands behind the arrow of a lambda, and before a `::`
+abbrev pub gives : viewed.Behind → Places → Filled Expr
+gives (viewed.Gives a) ps = one (λ x. Unknown) (expr a ps)
+gives (viewed.Does block) ps = filled Unknown ps
+
+abbrev pub referred : viewed.Before → Places → Filled Referee
+referred (viewed.OfExpr a) ps = one ToExpr (expr a ps)
+referred (viewed.OfType t) ps = filled ToType (skip (ty_count t) ps)
+referred viewed.OfSuper ps = filled ToType ps
+
 -- ---- statements
 
 abbrev pub each : {A B : Type 0} → (A → Places → Filled B) → List A → Places → Filled (List B)
@@ -155,11 +198,11 @@ abbrev pub maybe : {A B : Type 0} → (A → Places → Filled B) → Option A �
 maybe f None ps = filled None ps
 maybe f (Some x) ps = one Some (f x ps)
 
-abbrev pub begun : Ident → Option Init → Variable
-begun x i = record { name = x; initialiser = i }
+abbrev pub begun : Ident → ℕ → Option Init → Variable
+begun x arrays i = record { name = x; arrays = arrays; initialiser = i }
 
 abbrev pub variable : view.Variable → Places → Filled Variable
-variable v ps = one (begun (ident v.name ps)) (maybe init v.initialiser (behind ps))
+variable v ps = one (begun (ident v.name ps) v.arrays) (maybe init v.initialiser (behind ps))
 
 abbrev pub variables : view.Locals → Places → Filled (List Variable)
 variables l ps = each variable l.variables (skip (ty_count l.kind) ps)
@@ -167,10 +210,6 @@ variables l ps = each variable l.variables (skip (ty_count l.kind) ps)
 abbrev pub start : view.Start → Places → Filled Start
 start (view.Declares l) ps = one (Declares l.kind) (variables l ps)
 start (view.Runs es) ps = one Runs (exprs es ps)
-
-abbrev pub skip_types : List Ty → Places → Places
-skip_types [] ps = ps
-skip_types (t ∷ ts) ps = skip_types ts (skip (ty_count t) ps)
 
 abbrev pub caught : Ident → Stmts → Ident × Stmts
 caught x ss = (x, ss)
@@ -220,9 +259,10 @@ abbrev mutual
   stmt (view.If e s) ps = two If (expr e ps) (stmt s)
   stmt (view.IfElse e s t) ps = three IfElse (expr e ps) (stmt s) (stmt t)
   stmt (view.For i c updates s) ps = four For (start i ps) (maybe condition c) (exprs updates) (stmt s)
-  stmt (view.ForEach is_final t x e s) ps =
+  stmt (view.ForEach ms t x e s) ps =
       two (ForEach t (ident x (skip (ty_count t) ps))) (expr e (behind (skip (ty_count t) ps))) (stmt s)
   stmt (view.Labelled x s) ps = one (Labelled (ident x ps)) (stmt s (behind ps))
+  stmt (view.LocalClass x ts) ps = filled Empty (behind ps)
   stmt view.Empty ps = filled Empty ps
   -- by what stands behind the keyword: no two rows have the same, but `break` and `continue`
   stmt (view.Row word (view.a_condition e (view.a_body s rest))) ps = two While (condition e ps) (stmt s)

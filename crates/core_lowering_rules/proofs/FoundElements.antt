@@ -1,20 +1,22 @@
 -- What is found in the lists of a folder.
-use Rattle.std.proofs.Common.{◌≡◌, ℕ, suc, Bool, true, false, cond, not, ◌&&◌, ◌||◌, List, [], ◌∷◌, Option, Some, None}
-use Rattle.std.proofs.Common.{refl, ap, subst, slice_get, length, ◌++◌}
-use Rattle.std.specs.Prelude.{option_map, ◌==◌}
-use Rattle.std.specs.List.{flat_map}
+use Rattle.std.proofs.Common.{◌≡◌, ◌≤◌, ℕ, suc, Bool, true, false, cond, not, ◌&&◌, ◌||◌, List, [], ◌∷◌, Option, Some, None}
+use Rattle.std.proofs.Common.{refl, sym, ap, ◌∙◌, subst, slice_get, length, ◌++◌, nat_lt, arith}
+use Rattle.std.specs.Prelude.{option_map, option_and_then, ◌==◌}
+use Rattle.std.specs.List.{flat_map, list_any}
 use Rattle.std.specs.Option.{option_or}
 use Rattle.std.proofs.lemmas.Option.{same_Some, none-some}
-use Rattle.std.proofs.lemmas.Bool.{and_parts}
-use borrow.Author.Tests.{eqb-true}
+use Rattle.std.proofs.lemmas.Bool.{and_parts, eq-eqb}
+use borrow.Author.Tests.{eqb-true, ltb-false}
 use Rattle.racer_base.specs.declared.ids.ClassId.{ClassId}
 use Rattle.racer_base.specs.declared.ids.FieldId.{FieldId}
+use Rattle.racer_base.specs.declared.ids.Kind.{Kind}
 use Rattle.racer_base.specs.declared.ids.MethodId.{MethodId}
 use Rattle.racer_base.proofs.Tests.{implied}
 use Rattle.java_resolver.specs.declared.infos.FieldInfo.{FieldInfo}
 use Rattle.java_resolver.specs.declared.infos.MethodInfo.{MethodInfo}
-use Rattle.java_resolver.specs.Firsts.{first_that, last_that}
-use Rattle.java_resolver.specs.Meanings.{is_seen, field_named, is_called, found}
+use Rattle.java_resolver.specs.Firsts.{first_that, only_that, last_that}
+use Rattle.java_resolver.specs.Meanings.{is_seen, field_named, is_called, exactly_found, is_called_with_any}
+use Rattle.java_resolver.specs.Meanings.{are_enough, is_enough, if_enough, found_with_any, found}
 
 first_from : {A : Type 0} (test : A → Bool) (x : A) (xs : List A) →
     ((n : ℕ) → first_that test xs ≡ Some n → (y : A) × (slice_get xs n ≡ Some y) × (test y ≡ true)) →
@@ -66,27 +68,103 @@ field-there fields c in_static name f e =
       static_is = implied in_static y.0.is_static seen;
     }
 
+-- where arguments and parameters are others in number, the arguments are enough for the parameters but the last
+abbrev pub IsEnough : (arguments parameters : ℕ) → Type 0
+IsEnough count parameters = (count == parameters) ≡ false → (1 ≤ parameters) × (parameters ≤ suc count)
+
 -- a method that is found in a class
 pub record MethodThere (methods : List MethodInfo) (c : ClassId) (count : ℕ) (m : MethodId) : Type 0 where
   pub info : MethodInfo
   pub there : slice_get methods m.0 ≡ Some info
   pub class_is : info.class ≡ c
-  pub many : length info.parameters ≡ count
+  pub enough : IsEnough count (length info.parameters)
 
-pub method-there : (methods : List MethodInfo) (c : ClassId) (name : List ℕ) (count : ℕ) (m : MethodId) →
-    found methods c name count ≡ Some m → MethodThere methods c count m
-method-there methods c name count m e =
+same-class_id : (a b : ClassId) → (a.0 == b.0) ≡ true → a ≡ b
+same-class_id a b e = ap (λ (n : ℕ). let made : ClassId = record { 0 = n } in made) (eqb-true a.0 b.0 e)
+
+as-many : (count n : ℕ) → (n == count) ≡ true → IsEnough count n
+as-many count n e differ =
+    let same : (count == n) ≡ true = eq-eqb count n (sym (eqb-true n count e)) in
+    let both : true ≡ false = sym same ∙ differ in absurd cc
+
+exactly-there : (methods : List MethodInfo) (c : ClassId) (name : List ℕ) (count : ℕ) (m : MethodId) →
+    exactly_found methods c name count ≡ Some m → MethodThere methods c count m
+exactly-there methods c name count m e =
     let y = first-passes (is_called c name count) methods m.0
     (numbered-method (first_that (is_called c name count) methods) m e) in
     let both = (and_parts (y.0.class.0 == c.0 && length y.0.parameters == count) _ y.2).0 in
     record {
       info = y.0;
       there = y.1;
-      class_is =
-          ap (λ (n : ℕ). let made : ClassId = record { 0 = n } in made)
-          (eqb-true y.0.class.0 c.0 (and_parts (y.0.class.0 == c.0) _ both).0);
-      many = eqb-true (length y.0.parameters) count (and_parts (y.0.class.0 == c.0) _ both).1;
+      class_is = same-class_id y.0.class c (and_parts (y.0.class.0 == c.0) _ both).0;
+      enough = as-many count (length y.0.parameters) (and_parts (y.0.class.0 == c.0) _ both).1;
     }
+
+only_from : {A : Type 0} (test : A → Bool) (x : A) (xs : List A) →
+    ((n : ℕ) → only_that test xs ≡ Some n → (y : A) × (slice_get xs n ≡ Some y) × (test y ≡ true)) →
+    (b : Bool) → test x ≡ b → (again : Bool) (o : Option ℕ) → only_that test xs ≡ o → (n : ℕ) →
+    cond b (cond again None (Some 0)) (option_map suc o) ≡ Some n →
+    (y : A) × (slice_get (x ∷ xs) n ≡ Some y) × (test y ≡ true)
+only_from test x xs more true passes true o there n e = absurd (none-some _ e)
+only_from test x xs more true passes false o there n e =
+    (x, subst (λ k. slice_get (x ∷ xs) k ≡ Some x) (same_Some _ _ e) refl, passes)
+only_from test x xs more false fails again None there n e = absurd (none-some _ e)
+only_from test x xs more false fails again (Some k) there n e =
+    let y = more k there in
+    (y.0, subst (λ j. slice_get (x ∷ xs) j ≡ Some y.0) (same_Some _ _ e) y.1, y.2)
+
+-- the only element that passes is there, and passes
+only-passes : {A : Type 0} (test : A → Bool) (xs : List A) (n : ℕ) → only_that test xs ≡ Some n →
+    (y : A) × (slice_get xs n ≡ Some y) × (test y ≡ true)
+only-passes test [] n e = absurd (none-some _ e)
+only-passes test (x ∷ xs) n e =
+    only_from test x xs (only-passes test xs) (test x) refl (list_any test xs) (only_that test xs) refl n e
+
+not-true : (b : Bool) → not b ≡ true → b ≡ false
+not-true true e = sym e
+not-true false e = refl
+
+enough-of : (count : ℕ) (ks : List Kind) → are_enough count ks ≡ true →
+    (1 ≤ length ks) × (length ks ≤ suc count)
+enough-of count [] e = absurd cc
+enough-of count (k ∷ ks) e =
+    let few : length ks ≤ count = ltb-false count (length ks) (not-true (nat_lt count (length ks)) e) in
+    (omega arith, omega (arith, few))
+
+enough-there : (methods : List MethodInfo) (c : ClassId) (name : List ℕ) (count n : ℕ) (m : MethodId) →
+    only_that (is_called_with_any c name) methods ≡ Some n → (b : Bool) →
+    is_enough count (slice_get methods n) ≡ b →
+    cond b (Some (let made : MethodId = record { 0 = n } in made)) None ≡ Some m → MethodThere methods c count m
+enough-there methods c name count n m e false h is = absurd (none-some _ is)
+enough-there methods c name count n m e true h is =
+    let y = only-passes (is_called_with_any c name) methods n e in
+    let number : n ≡ m.0 = ap (λ (i : MethodId). i.0) (same_Some _ _ is) in
+    let named = (and_parts y.0.any_number _ y.2).1 in
+    record {
+      info = y.0;
+      there = subst (λ (k : ℕ). slice_get methods k ≡ Some y.0) number y.1;
+      class_is = same-class_id y.0.class c (and_parts (y.0.class.0 == c.0) _ named).0;
+      enough = λ differ. enough-of count y.0.parameters (sym (ap (is_enough count) y.1) ∙ h);
+    }
+
+with_any-there : (methods : List MethodInfo) (c : ClassId) (name : List ℕ) (count : ℕ) (m : MethodId)
+    (o : Option ℕ) → only_that (is_called_with_any c name) methods ≡ o →
+    option_and_then (if_enough methods count) o ≡ Some m → MethodThere methods c count m
+with_any-there methods c name count m None e is = absurd (none-some _ is)
+with_any-there methods c name count m (Some n) e is =
+    enough-there methods c name count n m e (is_enough count (slice_get methods n)) refl is
+
+found-there : (methods : List MethodInfo) (c : ClassId) (name : List ℕ) (count : ℕ) (m : MethodId)
+    (o : Option MethodId) → exactly_found methods c name count ≡ o →
+    option_or o (found_with_any methods c name count) ≡ Some m → MethodThere methods c count m
+found-there methods c name count m None e is =
+    with_any-there methods c name count m (only_that (is_called_with_any c name) methods) refl is
+found-there methods c name count m (Some x) e is = exactly-there methods c name count m (e ∙ is)
+
+pub method-there : (methods : List MethodInfo) (c : ClassId) (name : List ℕ) (count : ℕ) (m : MethodId) →
+    found methods c name count ≡ Some m → MethodThere methods c count m
+method-there methods c name count m e =
+    found-there methods c name count m (exactly_found methods c name count) refl e
 
 last_from : {A : Type 0} (P : A → Type 0) (x : A) (b : Bool) (o : Option A) (y : A) → P x → (o ≡ Some y → P y) →
     option_or o (cond b (Some x) None) ≡ Some y → P y

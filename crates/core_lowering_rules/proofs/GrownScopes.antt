@@ -6,12 +6,13 @@ use Rattle.racer_base.specs.declared.ids.VarId.{VarId}
 use Rattle.racer_base.specs.declared.ids.Kind.{Kind}
 use Rattle.racer_base.specs.declared.ids.Kind.TheVariants.{Other}
 use Rattle.java_tree.specs.declared.words.Ident.{Ident}
+use Rattle.java_resolver.specs.declared.scope.VariableKind.{VariableKind}
 use Rattle.java_tree.specs.declared.methods.ParameterTree.{ParameterTree}
 use Rattle.java_tree.specs.Trees.{Ty}
 use Rattle.core_code.specs.Core.{Core, Method}
 use Rattle.core_code.specs.KindCheck.{variable_at}
 use Rattle.core_lowering_rules.specs.Trees.{Variable, Start, Resource, Stmt, Stmts, Groups, Catches}
-use Rattle.core_lowering_rules.specs.Context.{Context, Guard, type_kind}
+use Rattle.core_lowering_rules.specs.Context.{Context, Guard, variable_kind_in}
 use Rattle.core_lowering_rules.specs.Scopes.{next_variable, new_variable, declared, all_declared, started, back_in}
 use Rattle.core_lowering_rules.specs.Scopes.{in_guard, out_of_guard, with_variable, returned_variable, after_return}
 use Rattle.core_lowering_rules.specs.Scopes.{after_last, with_resource, with_resources, after, after_all, after_groups}
@@ -54,7 +55,7 @@ grown =
       Goes = λ x c y d. Grows c d;
       stays = λ x c. record { more = []; longer = sym (append-nil c.kinds) };
       further = λ x c y d z e p q. grows-twice c d e p q;
-      declares = λ x c t name. record { more = type_kind c t ∷ []; longer = refl };
+      declares = λ x c t n name. record { more = (variable_kind_in c t n).kind ∷ []; longer = refl };
       names = λ x c name. record { more = Other ∷ []; longer = refl };
       backs = λ x c y d p. record { more = p.more; longer = p.longer };
       notes = λ x c f blind. record { more = []; longer = sym (append-nil c.kinds) };
@@ -67,7 +68,7 @@ grown =
     }
 
 pub grows-all : (context : Context) (t : Ty) (vs : List Variable) →
-    Grows context (all_declared context (type_kind context t) vs)
+    Grows context (all_declared context t vs)
 grows-all context t vs = goes-all grown context context t vs
 
 pub grows-after : (context : Context) (s : Stmt) → Grows context (after context s)
@@ -105,10 +106,10 @@ next-there : (kinds : List Kind) (k : Kind) (rest : List Kind) →
 next-there [] k rest = refl
 next-there (j ∷ kinds) k rest = next-there kinds k rest
 
-pub declared-there : (m : Method) (context : Context) (k : Kind) (x : Ident) → HasKinds m (declared context k x) →
-    variable_at m (next_variable context) ≡ Some k
+pub declared-there : (m : Method) (context : Context) (k : VariableKind) (x : Ident) →
+    HasKinds m (declared context k x) → variable_at m (next_variable context) ≡ Some k.kind
 declared-there m context k x h =
-    ap (λ (kinds : List Kind). slice_get kinds (length context.kinds)) h.all ∙ next-there context.kinds k h.rest
+    ap (λ (kinds : List Kind). slice_get kinds (length context.kinds)) h.all ∙ next-there context.kinds k.kind h.rest
 
 -- ---- what holds of all variables
 
@@ -120,7 +121,7 @@ each-drop P (suc n) (x ∷ xs) all = each-drop P n xs all.1
 -- ---- what is known stays known
 
 module _ (core : Core) (m : Method) where
-  pub declared-stands : (context : Context) (k : Kind) (x : Ident) → Stands core m context →
+  pub declared-stands : (context : Context) (k : VariableKind) (x : Ident) → Stands core m context →
       HasKinds m (declared context k x) → Stands core m (declared context k x)
   declared-stands context k x s h =
       record {
@@ -236,13 +237,13 @@ module _ (core : Core) (m : Method) where
           grows = grows-twice c d e p.grows q.grows;
           stand = λ s h. q.stand (p.stand s (has-earlier m d e q.grows h)) h;
         };
-        declares = λ x c t name. record {
-          grows = grown.declares x c t name;
-          stand = λ s h. declared-stands c (type_kind c t) name s h;
+        declares = λ x c t n name. record {
+          grows = grown.declares x c t n name;
+          stand = λ s h. declared-stands c (variable_kind_in c t n) name s h;
         };
         names = λ x c name. record {
           grows = grown.names x c name;
-          stand = λ s h. declared-stands c Other name s h;
+          stand = λ s h. declared-stands c (record { kind = Other; is_lock = false }) name s h;
         };
         backs = λ x c y d p. record {
           grows = grown.backs x c y d p.grows;

@@ -104,7 +104,7 @@ module _ (core : Core) where
         locked = λ kind place a c there p. alone (Sync (lock_at kind place) (in_sequence c))
             (and_from (is_place core place) (is_sound core (in_sequence c)) there (whole p));
         single = one;
-        called = λ place m n a b h k. call place m n b h k;
+        called = λ place m j n a b h k. call place m n b h k;
         missing = λ place o h k quiet. one place o h k;
         added = λ place o h k quiet. empty;
       }

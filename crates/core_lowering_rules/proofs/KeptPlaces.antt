@@ -1,6 +1,6 @@
 -- The places that units keep, part by part.
 use Rattle.std.proofs.Common.{◌≡◌, ℕ, suc, ◌+◌, ◌≤◌, Bool, true, false, cond, List, [], ◌∷◌}
-use Rattle.std.proofs.Common.{◌++◌, None, map, length, refl, sym, ◌∙◌, nat_lt, arith}
+use Rattle.std.proofs.Common.{◌++◌, Option, Some, None, map, length, refl, sym, ◌∙◌, nat_lt, arith}
 use Rattle.std.specs.List.{flat_map, list_all, list_any}
 use Rattle.std.proofs.lemmas.Bool.{lt-ltb, and_from, and_parts}
 use Rattle.std.proofs.lemmas.List.Folds.{list_all-append}
@@ -12,10 +12,14 @@ use Rattle.java_tree.specs.declared.methods.ModifierTree as modifiers
 use Rattle.java_tree.specs.declared.methods.ModifierTree.TheVariants as modifier
 use Rattle.java_tree.specs.declared.methods.MethodTree.{MethodTree}
 use Rattle.java_tree.specs.declared.methods.ParameterTree.{ParameterTree}
+use Rattle.java_tree.specs.declared.methods.TypeParameterTree.{TypeParameterTree}
+use Rattle.java_tree.specs.declared.methods.TypeParametersTree.{TypeParametersTree}
 use Rattle.java_tree.specs.Words.{keyword}
 use Rattle.java_tree.specs.KeptPlaces.{Places, is_kept, all_places, each_puts, ty_places, stmt_places}
-use Rattle.java_tree.specs.MethodPlaces.{Marks, some_onto, each_marks, no_place, no_name, annotation_marks}
-use Rattle.java_tree.specs.MethodPlaces.{modifier_marks, result_places, parameter_marks, method_marks}
+use Rattle.java_tree.specs.KeptPlaces.{Marks, some_onto, each_marks, maybe_marks, no_place, no_name, annotation_marks}
+use Rattle.java_tree.specs.KeptPlaces.{modifier_marks}
+use Rattle.java_tree.specs.MethodPlaces.{result_places, parameter_marks, type_parameter_marks}
+use Rattle.java_tree.specs.MethodPlaces.{type_parameters_marks, method_marks}
 use Rattle.java_tree.specs.declared.unit.Unit as unit_type
 use Rattle.java_tree.specs.declared.unit.ClassTree.{ClassTree}
 use Rattle.java_tree.specs.declared.unit.Member.{Member}
@@ -72,10 +76,10 @@ module _ (test : Place → Bool) where
 
   -- ---- the places that a method keeps
 
-  abbrev Kept : Marks → Type 0
+  abbrev pub Kept : Marks → Type 0
   Kept marks = All (kept_of marks)
 
-  some-behind : (ps : Places) (rest : Marks) → Kept (some_onto ps rest) → Kept rest
+  pub some-behind : (ps : Places) (rest : Marks) → Kept (some_onto ps rest) → Kept rest
   some-behind [] rest h = h
   some-behind (p ∷ ps) rest h = some-behind ps rest (and_parts (test p) _ h).1
 
@@ -84,7 +88,7 @@ module _ (test : Place → Bool) where
   some-front (p ∷ ps) rest h =
       and_from (test p) _ (and_parts (test p) _ h).0 (some-front ps rest (and_parts (test p) _ h).1)
 
-  each-behind : {A : Type 0} (f : A → Marks → Marks) → ((x : A) (rest : Marks) → Kept (f x rest) → Kept rest) →
+  pub each-behind : {A : Type 0} (f : A → Marks → Marks) → ((x : A) (rest : Marks) → Kept (f x rest) → Kept rest) →
       (xs : List A) (rest : Marks) → Kept (each_marks f xs rest) → Kept rest
   each-behind f step [] rest h = h
   each-behind f step (x ∷ xs) rest h = each-behind f step xs rest (step x (each_marks f xs rest) h)
@@ -93,7 +97,7 @@ module _ (test : Place → Bool) where
   unkept true rest h = h
   unkept false rest h = h
 
-  place-behind : (t : SpelledToken) (rest : Marks) → Kept (no_place t rest) → Kept rest
+  pub place-behind : (t : SpelledToken) (rest : Marks) → Kept (no_place t rest) → Kept rest
   place-behind t rest h = unkept (is_kept t.kind t.text) rest h
 
   name-behind : (x : List ℕ) (rest : Marks) → Kept (no_name x rest) → Kept rest
@@ -104,7 +108,7 @@ module _ (test : Place → Bool) where
       each-behind no_place place-behind n.arguments rest
       (each-behind no_name name-behind n.names (each_marks no_place n.arguments rest) h)
 
-  modifier-behind : (m : modifiers.ModifierTree) (rest : Marks) → Kept (modifier_marks m rest) → Kept rest
+  pub modifier-behind : (m : modifiers.ModifierTree) (rest : Marks) → Kept (modifier_marks m rest) → Kept rest
   modifier-behind (modifier.Word text) rest h = place-behind (keyword text) rest h
   modifier-behind (modifier.Annotated n) rest h = annotation-behind n rest h
 
@@ -112,24 +116,40 @@ module _ (test : Place → Bool) where
   parameter-behind p rest h =
       some-behind (p.name.place ∷ []) rest
       (some-behind (ty_places p.kind) (some_onto (p.name.place ∷ []) rest)
-      (each-behind annotation_marks annotation-behind p.annotations
+      (each-behind modifier_marks modifier-behind p.modifiers
       (some_onto (ty_places p.kind) (some_onto (p.name.place ∷ []) rest)) h))
+
+  type_parameter-behind : (p : TypeParameterTree) (rest : Marks) → Kept (type_parameter_marks p rest) → Kept rest
+  type_parameter-behind p rest h =
+      let bounds = some_onto (all_places (map ty_places p.bounds)) rest in
+      some-behind (all_places (map ty_places p.bounds)) rest
+      (some-behind (p.name.place ∷ []) bounds
+      (each-behind annotation_marks annotation-behind p.annotations (some_onto (p.name.place ∷ []) bounds) h))
+
+  maybe_parameters-behind : (o : Option TypeParametersTree) (rest : Marks) →
+      Kept (maybe_marks type_parameters_marks o rest) → Kept rest
+  maybe_parameters-behind None rest h = h
+  maybe_parameters-behind (Some ps) rest h =
+      each-behind modifier_marks modifier-behind ps.modifiers rest
+      (each-behind type_parameter_marks type_parameter-behind ps.items (each_marks modifier_marks ps.modifiers rest) h)
 
   -- the place of the name, and those of the body
   pub method-places : (t : MethodTree) → Kept (method_marks t) →
-      (test t.name.place ≡ true) × All (each_puts (map stmt_places t.body) [])
+      (test t.name.place ≡ true) × Kept (each_puts (map stmt_places t.body) [])
   method-places t h =
-      let body = some_onto (each_puts (map stmt_places t.body) []) [] in
+      let body = each_puts (map stmt_places t.body) [] in
       let throws = some_onto (all_places (map ty_places t.throws)) body in
       let parameters = each_marks parameter_marks t.parameters throws in
       let name = some_onto (t.name.place ∷ []) parameters in
-      let p = each-behind modifier_marks modifier-behind t.modifiers (some_onto (result_places t.result) name) h in
+      let result = some_onto (result_places t.result) name in
+      let first = each-behind modifier_marks modifier-behind t.modifiers
+      (maybe_marks type_parameters_marks t.type_parameters result) h in
+      let p = maybe_parameters-behind t.type_parameters result first in
       let q = some-behind (result_places t.result) name p in
       let r = each-behind parameter_marks parameter-behind t.parameters throws
       (some-behind (t.name.place ∷ []) parameters q) in (
         (and_parts (test t.name.place) _ (some-front (t.name.place ∷ []) parameters q)).0,
-        some-front (each_puts (map stmt_places t.body) []) []
-            (some-behind (all_places (map ty_places t.throws)) body r),
+        some-behind (all_places (map ty_places t.throws)) body r,
       )
 
   -- ---- skipped places

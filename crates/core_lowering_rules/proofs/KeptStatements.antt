@@ -15,7 +15,7 @@ use Rattle.java_tree.specs.declared.statements.Statement.TheFolds as statements
 use Rattle.java_tree.specs.KeptPlaces.{Puts, each_puts, maybe_puts, name_places, ty_places, expr_places, init_places}
 use Rattle.java_tree.specs.KeptPlaces.{array_places, variable_places, locals_places, start_places, stmt_places}
 use Rattle.java_tree.specs.KeptPlaces.{all_places, catch_places, group_places, try_places, label_places}
-use Rattle.java_tree.specs.KeptPlaces.{resource_places, resources_places}
+use Rattle.java_tree.specs.KeptPlaces.{resource_places, resources_places, some_onto, no_places, behind_name}
 use Rattle.java_tree.specs.KeptPlaces as kept
 use Rattle.core_lowering_rules.specs.Trees.{Stmt, pack_stmts, pack_groups}
 use Rattle.core_lowering_rules.specs.TreesOf.{access_of, literal, is_assignment, is_logical}
@@ -28,7 +28,8 @@ use Rattle.core_lowering_rules.specs.TreesOf as lowered
 use Rattle.core_lowering_rules.proofs.PlacedTrees.{PlacedStmt}
 use Rattle.core_lowering_rules.proofs.PlacedTrees.{PlacedStmts, PlacedGroups}
 use Rattle.core_lowering_rules.proofs.PlacedTrees.{put-placed}
-use Rattle.core_lowering_rules.proofs.KeptTrees.{Splits, behind, front, after, all-kept, some-kept, locals-kept}
+use Rattle.core_lowering_rules.proofs.KeptTrees.{Splits, behind, behind_tokens, behind_modifiers, front, after, all-kept}
+use Rattle.core_lowering_rules.proofs.KeptTrees.{some-kept, locals-kept}
 use Rattle.core_lowering_rules.proofs.KeptTrees.{start-kept, tested-kept, resources-kept, labels-kept, name-kept}
 use Rattle.core_lowering_rules.proofs.KeptTrees.{expr-kept}
 
@@ -135,10 +136,12 @@ module _ (test : Place → Bool) where
       let b = tested-kept test condition third a.1 in
       let c = all-kept test updates.items last b.1 in
       let d = s.value.1 rest c.1 in ((a.0, b.0, c.0, d.0), d.1)
-  stmt-split (statement.ForEach is_final t x e s) rest h =
+  stmt-split (statement.ForEach v e s) rest h =
       let last = stmt_places s.value.0 rest in
+      let name = Some v.name.place ∷ expr_places e last in
       let p = expr-kept test e last
-      (after test x.place (expr_places e last) (behind test (ty_places t) (x.place ∷ expr_places e last) h)) in
+      (after test v.name.place (expr_places e last)
+      (behind test (ty_places v.kind) name (behind_modifiers test v.modifiers (some_onto (ty_places v.kind) name) h))) in
       let q = s.value.1 rest p.1 in ((p.0, q.0), q.1)
   stmt-split (statement.Sync place e ss) rest h =
       let last = each_puts (map stmt_places (plain_all ss.items)) rest in
@@ -158,6 +161,8 @@ module _ (test : Place → Bool) where
   stmt-split (statement.Assert e f) rest h =
       let p = expr-kept test e (maybe_puts (option_map expr_places f) rest) h in
       let q = some-kept test f rest p.1 in (p.0, q.1)
+  stmt-split (statement.LocalClass x ts) rest h =
+      (tt, behind_tokens test (behind_name ts) rest (after test x.place (no_places (behind_name ts) rest) h))
   stmt-split (statement.Switch e gs) rest h =
       let p = expr-kept test e (each_puts (map group_places (plain_groups gs.items)) rest) h in
       let q = groups-split gs.items rest p.1 in ((p.0, q.0), q.1)
@@ -198,7 +203,8 @@ module _ (test : Place → Bool) where
       let p = y.parameter in
       let last = each_puts (map stmt_places (plain_all y.body.items)) rest in
       let q = stmts-split y.body.items rest
-      (after test p.name.place last (behind test (all_places (map ty_places p.types)) (p.name.place ∷ last) h)) in
+      (after test p.name.place last (behind test (all_places (map ty_places p.types)) (Some p.name.place ∷ last)
+      (behind_modifiers test p.modifiers (some_onto (all_places (map ty_places p.types)) (Some p.name.place ∷ last)) h))) in
       (tt, q.1)
 
   catch-has : (x : PlainCatch) (y : CatchLayer) → plain_catch y ≡ x → HasCatch (roll-CatchTree x)

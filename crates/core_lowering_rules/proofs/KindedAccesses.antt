@@ -13,7 +13,7 @@ use Rattle.java_resolver.specs.declared.infos.FieldInfo.{FieldInfo}
 use Rattle.java_resolver.specs.declared.scope.ScopeVariable.{ScopeVariable}
 use Rattle.java_resolver.specs.declared.scope.Meaning.{Meaning}
 use Rattle.java_resolver.specs.declared.scope.Meaning.TheVariants as means
-use Rattle.java_resolver.specs.TypeKinds.{class_named}
+use Rattle.java_resolver.specs.TypeKinds.{class_seen}
 use Rattle.java_resolver.specs.Declarations.{class_names}
 use Rattle.java_resolver.specs.Meanings.{field_named, variable_named}
 use Rattle.core_code.specs.declared.code.Op.TheVariants.{Push, PushClass, Dup, Drop, Get, Put, Set, Prim, Outside}
@@ -339,7 +339,7 @@ module _ (core : Core) (m : Method) (context : Context) (stands : Stands core m 
   is-named x =
       let o = variable_named context.scope x.text in
       let f = field_named context.folder.fields context.scope.class context.scope.is_static x.text in
-      let c = class_named (class_names context.folder.classes) x.text in
+      let c = class_seen context.scope.hidden (class_names context.folder.classes) x.text in
       subst (λ (mean : Meaning). IsStorage core m (of_meaning context x mean)) (sym (meaning-chosen o f c))
       (is-meant x o f c refl refl)
 

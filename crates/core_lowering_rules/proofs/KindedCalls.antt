@@ -1,7 +1,8 @@
 -- Calls and object creations are kinded.
-use Rattle.std.proofs.Common.{◌≡◌, ℕ, suc, Bool, true, false, cond, List, [], ◌∷◌, ◌++◌, Option, Some, None}
-use Rattle.std.proofs.Common.{length, refl, sym, ap, ◌∙◌, subst, arith, append_assoc, length-append, reverse}
-use Rattle.std.proofs.lemmas.List.{reverse-append}
+use Rattle.std.proofs.Common.{◌≡◌, ◌≤◌, ℕ, suc, ◌+◌, ◌-◌, ◌==◌, Bool, true, false, cond, List, [], ◌∷◌, ◌++◌, Option, Some, None}
+use Rattle.std.proofs.Common.{length, take, refl, sym, ap, ◌∙◌, subst, arith, append_assoc}
+use Rattle.std.proofs.Common.{length-append, reverse}
+use Rattle.std.proofs.lemmas.List.{length-take-le}
 use Rattle.racer_base.specs.declared.ids.ClassId.{ClassId}
 use Rattle.racer_base.specs.declared.ids.MethodId.{MethodId}
 use Rattle.racer_base.specs.declared.ids.Kind.{Kind}
@@ -19,57 +20,38 @@ use Rattle.core_code.specs.Calls as core_calls
 use Rattle.core_code.specs.CallFacts.{is_right_call}
 use Rattle.std.proofs.Common.{is_none, nat_eq, not}
 use Rattle.std.proofs.lemmas.Bool.{eq-eqb, and_from}
-use Rattle.core_code.specs.Kinds.{StackKind, Declared, Opaque, kind_of, fits_class, fits}
+use borrow.Author.Tests.{eqb-true}
+use Rattle.core_code.specs.Kinds.{StackKind, Declared, Opaque, kind_of, fits_class}
 use Rattle.core_code.specs.KindCheck.{Kinds, and_then, below_fitting, after_call}
 use Rattle.core_code.proofs.KindLemmas.{class_same}
 use Rattle.core_lowering_rules.specs.ValueKinds.{ValueKind, Of}
 use Rattle.core_lowering_rules.specs.ValueKinds as value
-use Rattle.core_lowering_rules.specs.Context.{Context, Code, op_at, op, converted, push_this, is_analysed}
+use Rattle.core_lowering_rules.specs.Context.{Context, Code, op_at, op, push_this, is_analysed}
 use Rattle.core_lowering_rules.specs.Calls.{Callee, Missing, OfClass, OfObject, info_at, callee_of, callee_found}
 use Rattle.core_lowering_rules.specs.Calls.{callee_in}
 use Rattle.core_lowering_rules.specs.Calls.{if_static, own_callee, callee_on, result_of, result_kind}
-use Rattle.core_lowering_rules.specs.Calls.{parameters_of, parameter_kinds, call_at, Passing, called, called_on_value}
+use Rattle.core_lowering_rules.specs.Calls.{parameters_of, given_kinds, parameter_kinds, gathered, call_of, call_at, Passing, called}
+use Rattle.core_lowering_rules.specs.Calls.{called_on_value}
 use Rattle.core_lowering_rules.specs.Calls.{called_on}
 use Rattle.core_lowering_rules.specs.Calls.{constructor_of, constructor_among, made_by, made}
 use Rattle.core_lowering_rules.proofs.Suits.{suits-own, suits-opaque}
-use Rattle.core_lowering_rules.proofs.Runs.{Runs, nothing, followed, once, outside, popped, comes}
+use Rattle.core_lowering_rules.proofs.Runs.{Runs, nothing, followed, once, outside, popped}
 use Rattle.core_lowering_rules.proofs.Runs.{in_turn_3, grouped}
-use Rattle.core_lowering_rules.proofs.FoundElements.{MethodThere, method-there}
+use Rattle.core_lowering_rules.proofs.FoundElements.{IsEnough, MethodThere, method-there}
 use Rattle.core_lowering_rules.proofs.Stands.{Stands, HasMethod, taken_of}
-use Rattle.core_lowering_rules.proofs.KindedAccesses.{Leaves, LeavesMany, pushes}
+use Rattle.core_lowering_rules.proofs.KindedAccesses.{Leaves, pushes}
+use Rattle.core_lowering_rules.proofs.KindedArguments.{below_first, one_more, all-fit, PassedTo, with-last}
 
--- ---- values that fit
-
-below_fitting-last : (ks : List Kind) (k : Kind) (stack : List StackKind) →
-    below_fitting (ks ++ k ∷ []) stack ≡ and_then (below_fitting ks stack) (below_fitting (k ∷ []))
-below_fitting-last [] k stack = refl
-below_fitting-last (j ∷ ks) k [] = refl
-below_fitting-last (j ∷ ks) k (s ∷ stack) =
-    elim (fits j s)
-    as (λ b. cond b (below_fitting (ks ++ k ∷ []) stack) None ≡
-    and_then (cond b (below_fitting ks stack) None) (below_fitting (k ∷ []))) [
-      | true ↦ below_fitting-last ks k stack
-      | false ↦ refl
-    ]
-
--- what lies below values, and below them one more
-pub below_first : (k : Kind) (ks : List Kind) (values : List StackKind) (s : StackKind) (rest : List StackKind) →
-    below_fitting (reverse ks) (values ++ s ∷ rest) ≡ Some (s ∷ rest) → fits k s ≡ true →
-    below_fitting (reverse (k ∷ ks)) (values ++ s ∷ rest) ≡ Some rest
-below_first k ks values s rest e h =
-    ap (λ kinds. below_fitting kinds (values ++ s ∷ rest)) (reverse-append (k ∷ []) ks)
-    ∙ below_fitting-last (reverse ks) k (values ++ s ∷ rest)
-    ∙ ap (λ (o : Kinds). and_then o (below_fitting (k ∷ []))) e
-    ∙ ap (λ b. cond b (Some rest) None) h
-
-pub one_more : (values : List StackKind) (s : StackKind) (n : ℕ) → length values ≡ n → length (values ++ s ∷ []) ≡ suc n
-one_more values s n e = length-append values (s ∷ []) ∙ (omega arith)
-
--- arguments that leave so many values, which fit the kinds where there are as many
-pub record PassedTo (core : Core) (m : core_specs.Method) (code : Code) (kinds : List Kind) (n : ℕ) : Type 0 where
-  pub passes : (stack : List StackKind) →
-      (values : List StackKind) × Runs core m code stack (values ++ stack) × (length values ≡ n)
-      × (length kinds ≡ n → (rest : List StackKind) → below_fitting (reverse kinds) (values ++ rest) ≡ Some rest)
+-- the arguments, and what makes one value of some, leave the values that a method with these parameters takes
+record GivenTo (core : Core) (m : core_specs.Method) (arguments made_one : Code) (parameters : List Kind)
+    (stack : List StackKind) : Type 0
+  where
+    between : List StackKind
+    values : List StackKind
+    first : Runs core m arguments stack between
+    second : Runs core m made_one between (values ++ stack)
+    many : length values ≡ length parameters
+    fit : (rest : List StackKind) → below_fitting (reverse parameters) (values ++ rest) ≡ Some rest
 
 -- code that leaves an object of a class, or what may be one
 pub record Receives (core : Core) (m : core_specs.Method) (code : Code) (c : ClassId) : Type 0 where
@@ -81,7 +63,7 @@ pub record CalleeInfo (context : Context) (n : MethodId) (c : ClassId) (count : 
   pub info : MethodInfo
   pub there : info_at context n ≡ Some info
   pub class_is : info.class ≡ c
-  pub many : length info.parameters ≡ count
+  pub enough : IsEnough count (length info.parameters)
   pub static_is : info.is_static ≡ is_static
 
 abbrev pub IsCallee : Context → ClassId → ℕ → Callee → Type 0
@@ -97,64 +79,14 @@ IsOwn context c count (OfObject n) =
     CalleeInfo context n c count false × (context.scope.is_static ≡ false) × (c ≡ context.scope.class)
 
 module _ (core : Core) (m : core_specs.Method) (context : Context) (stands : Stands core m context) where
-  -- ---- arguments
-
-  pub passed-none : (kinds : List Kind) → PassedTo core m [] kinds 0
-  passed-none [] = record { passes = λ stack. ([], nothing core m stack, refl, λ many rest. refl) }
-  passed-none (k ∷ kinds) =
-      record { passes = λ stack. ([], nothing core m stack, refl, λ many rest. absurd (omega arith)) }
-
-  pub many-more : {e rest : Code} {given : ValueKind} {n : ℕ} → Leaves core m e given → LeavesMany core m rest n →
-      LeavesMany core m (e ++ rest) (suc n)
-  many-more {e} {rest} {n = n} l p =
-      record {
-        leaves = λ stack.
-            let value = l.leaves stack in
-            let more = p.leaves (value.0 ∷ stack) in (
-              more.0 ++ value.0 ∷ [],
-              subst (λ after. Runs core m (e ++ rest) stack after) (sym (append_assoc more.0 (value.0 ∷ []) stack))
-                  (followed core m value.2 more.1),
-              one_more more.0 value.0 n more.2,
-            );
-      }
-
-  pub passed-bare : {e rest : Code} {kind : ValueKind} {n : ℕ} → Leaves core m e kind → PassedTo core m rest [] n →
-      PassedTo core m (e ++ rest) [] (suc n)
-  passed-bare l p =
-      let all = many-more l (record { leaves = λ stack. let more = p.passes stack in (more.0, more.1, more.2) }) in
-      record {
-        passes = λ stack.
-            let values = all.leaves stack in (values.0, values.1, values.2, λ many rest. absurd (omega arith));
-      }
-
-  pub passed-kind : {e rest : Code} {given : ValueKind} {n : ℕ} (k : Kind) (kinds : List Kind) → Leaves core m e given →
-      PassedTo core m rest kinds n → PassedTo core m (e ++ converted context k given ++ rest) (k ∷ kinds) (suc n)
-  passed-kind {e} {rest} {given = given} {n = n} k kinds l p =
-      record {
-        passes = λ stack.
-            let value = l.leaves stack in
-            let c = comes core m context k given value.0 stack value.1 in
-            let more = p.passes (c.to ∷ stack) in (
-              more.0 ++ c.to ∷ [],
-              subst (λ after. Runs core m (e ++ converted context k given ++ rest) stack after) (sym
-                  (append_assoc more.0 (c.to ∷ []) stack))
-                  (in_turn_3 core m value.2 c.runs more.1),
-              one_more more.0 c.to n more.2,
-              λ many rest.
-                  let as_many : length kinds ≡ n = omega arith in
-                  ap (below_fitting (reverse (k ∷ kinds))) (append_assoc more.0 (c.to ∷ []) rest)
-                  ∙ below_first k kinds more.0 c.to rest (more.3 as_many (c.to ∷ rest)) c.fitting,
-            );
-      }
-
   -- ---- what is called
 
   by-static : (n : MethodId) (c : ClassId) (count : ℕ) (h : MethodThere context.folder.methods c count n) (b : Bool) →
       h.info.is_static ≡ b → IsCallee context c count (cond b (OfClass n) (OfObject n))
   by-static n c count h true e =
-      record { info = h.info; there = h.there; class_is = h.class_is; many = h.many; static_is = e }
+      record { info = h.info; there = h.there; class_is = h.class_is; enough = h.enough; static_is = e }
   by-static n c count h false e =
-      record { info = h.info; there = h.there; class_is = h.class_is; many = h.many; static_is = e }
+      record { info = h.info; there = h.there; class_is = h.class_is; enough = h.enough; static_is = e }
 
   is-found : (c : ClassId) (name : List ℕ) (count : ℕ) (o : Option MethodId) →
       found context.folder.methods c name count ≡ o → IsCallee context c count (callee_found context o)
@@ -221,26 +153,77 @@ module _ (core : Core) (m : core_specs.Method) (context : Context) (stands : Sta
   abbrev taken_by_test : MethodInfo → Bool → List Kind
   taken_by_test info b = cond b info.parameters (types.Declared info.class ∷ info.parameters)
 
+  given-by : (ks : List Kind) (count : ℕ) (arguments : Passing) →
+      ((kinds : List Kind) → PassedTo core m (arguments kinds) kinds count) → IsEnough count (length ks) →
+      (stack : List StackKind) (b : Bool) → (count == length ks) ≡ b →
+      GivenTo core m (arguments (cond b ks (take (length ks - 1) ks)))
+      (cond b [] (op context (Outside (count - (length ks - 1))))) ks stack
+  given-by ks count arguments passing enough stack true e =
+      let p = (passing ks).passes stack in
+      let same : count ≡ length ks = eqb-true count (length ks) e in
+      record {
+        between = p.0 ++ stack;
+        values = p.0;
+        first = p.1;
+        second = nothing core m (p.0 ++ stack);
+        many = p.2 ∙ same;
+        fit = all-fit ks p.0 count (p.3 (omega (arith, same))) (sym same);
+      }
+  given-by ks count arguments passing enough stack false e =
+      let front = take (length ks - 1) ks in
+      let known = enough e in
+      let some : 1 ≤ length ks = known.0 in
+      let few : length ks ≤ suc count = known.1 in
+      let size : length front ≡ length ks - 1 = length-take-le (length ks - 1) ks (omega arith) in
+      let p = (passing front).passes stack in
+      let f = p.3 (omega (arith, size, few)) in
+      let total : length f.others + length front ≡ count = f.many in
+      let left : length f.others ≡ count - (length ks - 1) = omega (arith, total, size) in
+      let all : length (f.others ++ f.own) ≡ count = ap (length {A = StackKind}) (sym f.parts) ∙ p.2 in
+      let sum : length (f.others ++ f.own) ≡ length f.others + length f.own = length-append f.others f.own in
+      let own : suc (length f.own) ≡ length ks = omega (arith, total, size, all, sum, some) in
+      record {
+        between = p.0 ++ stack;
+        values = Opaque ∷ f.own;
+        first = p.1;
+        second = subst (λ (before : List StackKind).
+            Runs core m (op context (Outside (count - (length ks - 1)))) before (Opaque ∷ (f.own ++ stack)))
+            (sym (ap (λ (v : List StackKind). v ++ stack) f.parts ∙ append_assoc f.others f.own stack))
+            (outside core m context.place f.others (f.own ++ stack) (count - (length ks - 1)) left);
+        many = own;
+        fit = λ rest. with-last ks some f.own rest (f.fit rest);
+      }
+
+  given : (ks : List Kind) (count : ℕ) (arguments : Passing) →
+      ((kinds : List Kind) → PassedTo core m (arguments kinds) kinds count) → IsEnough count (length ks) →
+      (stack : List StackKind) →
+      GivenTo core m (arguments (given_kinds count ks)) (gathered context count (length ks)) ks stack
+  given ks count arguments passing enough stack =
+      given-by ks count arguments passing enough stack (count == length ks) refl
+
   static-call : (place : Place) (n : MethodId) (info : MethodInfo) (count : ℕ) (arguments : Passing) →
       ((kinds : List Kind) → PassedTo core m (arguments kinds) kinds count) → info_at context n ≡ Some info →
-      info.is_static ≡ true → length info.parameters ≡ count → (b : Bool) → is_analysed context n ≡ b →
-      Leaves core m (arguments (cond b info.parameters []) ++ op_at place (cond b (Call n count) (Unread n count)))
+      info.is_static ≡ true → IsEnough count (length info.parameters) → (b : Bool) → is_analysed context n ≡ b →
+      Leaves core m (arguments (cond b (given_kinds count info.parameters) [])
+      ++ cond b (call_of context place n false count (length info.parameters)) (op_at place (Unread n count)))
       (Of info.result)
-  static-call place n info count arguments passing there static_is many true e =
+  static-call place n info count arguments passing there static_is enough true e =
       record {
         leaves = λ stack.
-            let p = (passing info.parameters).passes stack in
-            let takes : below_fitting (reverse (taken_of info)) (p.0 ++ stack) ≡ Some stack =
+            let g = given info.parameters count arguments passing enough stack in
+            let parameters = length info.parameters in
+            let takes : below_fitting (reverse (taken_of info)) (g.values ++ stack) ≡ Some stack =
             ap (λ b. below_fitting (reverse (cond b info.parameters (types.Declared info.class ∷ info.parameters)))
-            (p.0 ++ stack)) static_is ∙ p.3 many stack in (
+            (g.values ++ stack)) static_is ∙ g.fit stack in (
               kind_of info.result,
               suits-own info.result,
-              followed core m p.1
-                  (calls place n info count p.0 stack (stands.known.methods n info there e) p.2
-                  (ap (λ b. length (taken_by_test info b)) static_is ∙ many) takes),
+              followed core m g.first
+                  (followed core m g.second
+                  (calls place n info parameters g.values stack (stands.known.methods n info there e) g.many
+                  (ap (λ b. length (taken_by_test info b)) static_is) takes)),
             );
       }
-  static-call place n info count arguments passing there static_is many false e =
+  static-call place n info count arguments passing there static_is enough false e =
       record {
         leaves = λ stack.
             let p = (passing []).passes stack in (
@@ -252,45 +235,51 @@ module _ (core : Core) (m : core_specs.Method) (context : Context) (stands : Sta
 
   pub static-called : (place : Place) (n : MethodId) (c : ClassId) (count : ℕ) (arguments : Passing) →
       ((kinds : List Kind) → PassedTo core m (arguments kinds) kinds count) → CalleeInfo context n c count true →
-      Leaves core m (arguments (parameter_kinds context n) ++ call_at context place n count)
+      Leaves core m (arguments (parameter_kinds context n count) ++ call_at context place n false count)
       (result_of (info_at context n))
   static-called place n c count arguments passing h =
       subst (λ o. Leaves core m
-      (arguments (cond (is_analysed context n) (parameters_of o) []) ++ call_at context place n count) (result_of o))
+      (arguments (cond (is_analysed context n) (given_kinds count (parameters_of o)) [])
+      ++ cond (is_analysed context n) (call_of context place n false count (length (parameters_of o)))
+      (op_at place (Unread n count))) (result_of o))
       (sym h.there)
-      (static-call place n h.info count arguments passing h.there h.static_is h.many (is_analysed context n) refl)
+      (static-call place n h.info count arguments passing h.there h.static_is h.enough (is_analysed context n) refl)
 
   object-call : (place : Place) (n : MethodId) (info : MethodInfo) (count : ℕ) (receiver : Code) (arguments : Passing) →
       ((kinds : List Kind) → PassedTo core m (arguments kinds) kinds count) → Receives core m receiver info.class →
-      info_at context n ≡ Some info → info.is_static ≡ false → length info.parameters ≡ count → (b : Bool) →
+      info_at context n ≡ Some info → info.is_static ≡ false → IsEnough count (length info.parameters) → (b : Bool) →
       is_analysed context n ≡ b →
       Leaves core m
-      (receiver ++ arguments (cond b info.parameters [])
-      ++ op_at place (cond b (Call n (suc count)) (Unread n (suc count))))
+      (receiver ++ arguments (cond b (given_kinds count info.parameters) [])
+      ++ cond b (call_of context place n true count (length info.parameters)) (op_at place (Unread n (suc count))))
       (Of info.result)
-  object-call place n info count receiver arguments passing r there static_is many true e =
+  object-call place n info count receiver arguments passing r there static_is enough true e =
       record {
         leaves = λ stack.
             let object = r.leaves stack in
-            let p = (passing info.parameters).passes (object.0 ∷ stack) in
-            let values = p.0 ++ object.0 ∷ [] in
-            let grouped_values = append_assoc p.0 (object.0 ∷ []) stack in
+            let parameters = length info.parameters in
+            let g = given info.parameters count arguments passing enough (object.0 ∷ stack) in
+            let values = g.values ++ object.0 ∷ [] in
+            let grouped_values = append_assoc g.values (object.0 ∷ []) stack in
             let takes : below_fitting (reverse (taken_of info)) (values ++ stack) ≡ Some stack =
             ap (below_fitting (reverse (taken_of info))) grouped_values
-            ∙ ap (λ b. below_fitting (reverse (taken_by_test info b)) (p.0 ++ object.0 ∷ stack)) static_is
-            ∙ below_first (types.Declared info.class) info.parameters p.0 object.0 stack
-            (p.3 many (object.0 ∷ stack)) object.2 in
-            let taken : length (taken_of info) ≡ suc count =
-            ap (λ b. length (taken_by_test info b)) static_is ∙ ap suc many in
-            let runs : Runs core m (op_at place (Call n (suc count))) (p.0 ++ object.0 ∷ stack)
+            ∙ ap (λ b. below_fitting (reverse (taken_by_test info b)) (g.values ++ object.0 ∷ stack)) static_is
+            ∙ below_first (types.Declared info.class) info.parameters g.values object.0 stack
+            (g.fit (object.0 ∷ stack)) object.2 in
+            let taken : length (taken_of info) ≡ suc parameters =
+            ap (λ b. length (taken_by_test info b)) static_is in
+            let runs : Runs core m (op_at place (Call n (suc parameters))) (g.values ++ object.0 ∷ stack)
             (kind_of info.result ∷ stack) =
-            subst (λ before. Runs core m (op_at place (Call n (suc count))) before (kind_of info.result ∷ stack))
+            subst (λ before. Runs core m (op_at place (Call n (suc parameters))) before (kind_of info.result ∷ stack))
             grouped_values
-            (calls place n info (suc count) values stack (stands.known.methods n info there e)
-            (one_more p.0 object.0 count p.2) taken takes) in
-            (kind_of info.result, suits-own info.result, in_turn_3 core m object.1 p.1 runs);
+            (calls place n info (suc parameters) values stack (stands.known.methods n info there e)
+            (one_more g.values object.0 parameters g.many) taken takes) in (
+              kind_of info.result,
+              suits-own info.result,
+              in_turn_3 core m object.1 g.first (followed core m g.second runs),
+            );
       }
-  object-call place n info count receiver arguments passing r there static_is many false e =
+  object-call place n info count receiver arguments passing r there static_is enough false e =
       record {
         leaves = λ stack.
             let object = r.leaves stack in
@@ -305,14 +294,15 @@ module _ (core : Core) (m : core_specs.Method) (context : Context) (stands : Sta
   pub object-called : (place : Place) (n : MethodId) (c : ClassId) (count : ℕ) (receiver : Code) (arguments : Passing) →
       ((kinds : List Kind) → PassedTo core m (arguments kinds) kinds count) → Receives core m receiver c →
       CalleeInfo context n c count false →
-      Leaves core m (receiver ++ arguments (parameter_kinds context n) ++ call_at context place n (suc count))
+      Leaves core m (receiver ++ arguments (parameter_kinds context n count) ++ call_at context place n true count)
       (result_of (info_at context n))
   object-called place n c count receiver arguments passing r h =
       subst (λ o. Leaves core m
-      (receiver ++ arguments (cond (is_analysed context n) (parameters_of o) []) ++ call_at context place n (suc count))
-      (result_of o)) (sym h.there)
+      (receiver ++ arguments (cond (is_analysed context n) (given_kinds count (parameters_of o)) [])
+      ++ cond (is_analysed context n) (call_of context place n true count (length (parameters_of o)))
+      (op_at place (Unread n (suc count)))) (result_of o)) (sym h.there)
       (object-call place n h.info count receiver arguments passing
-      (subst (λ d. Receives core m receiver d) (sym h.class_is) r) h.there h.static_is h.many
+      (subst (λ d. Receives core m receiver d) (sym h.class_is) r) h.there h.static_is h.enough
       (is_analysed context n) refl)
 
   -- ---- forms
@@ -352,7 +342,7 @@ module _ (core : Core) (m : core_specs.Method) (context : Context) (stands : Sta
       ((kinds : List Kind) → PassedTo core m (arguments kinds) kinds count) → {kind : ValueKind} →
       Leaves core m e kind → CalleeInfo context n c count true →
       Leaves core m
-      (e ++ op context Drop ++ arguments (parameter_kinds context n) ++ call_at context place n count)
+      (e ++ op context Drop ++ arguments (parameter_kinds context n count) ++ call_at context place n false count)
       (result_of (info_at context n))
   dropped-call place n c count e arguments passing l h =
       record {
@@ -361,8 +351,8 @@ module _ (core : Core) (m : core_specs.Method) (context : Context) (stands : Sta
             let rest = (static-called place n c count arguments passing h).leaves stack in (
               rest.0,
               rest.1,
-              grouped core m (e ++ op context Drop) (arguments (parameter_kinds context n))
-                  (call_at context place n count)
+              grouped core m (e ++ op context Drop) (arguments (parameter_kinds context n count))
+                  (call_at context place n false count)
                   (in_turn_3 core m value.2 (once core m context.place Drop
                   (value.0 ∷ []) [] stack refl refl refl refl) rest.2),
             );
@@ -440,9 +430,9 @@ module _ (core : Core) (m : core_specs.Method) (context : Context) (stands : Sta
   constructed place n c count arguments passing h true e =
       let known = stands.known.constructors n h.info h.there e in
       let info : CalleeInfo context n c count false =
-      record { info = h.info; there = h.there; class_is = h.class_is; many = h.many; static_is = known.1 } in
+      record { info = h.info; there = h.there; class_is = h.class_is; enough = h.enough; static_is = known.1 } in
       subst (λ kind. Leaves core m (op_at place (New c) ++ arguments
-      (parameter_kinds context n) ++ call_at context place n (suc count)) kind)
+      (parameter_kinds context n count) ++ call_at context place n true count) kind)
       (ap result_of h.there ∙ ap (λ k. Of k) known.0 ∙ ap (λ d. Of (types.Declared d)) h.class_is)
       (object-called place n c count (op_at place (New c)) arguments passing (created place c) info)
 

@@ -10,10 +10,11 @@ use Rattle.core_code.specs.declared.code.Op.TheVariants.{PushClass, PushPrim, Pu
 use Rattle.core_code.specs.Core.{Core, Method}
 use Rattle.core_code.specs.Kinds.{Plain, Declared, Class, Null, Opaque, joined_kind}
 use Rattle.core_code.proofs.KindLemmas.{class_same}
-use Rattle.core_lowering_rules.specs.Trees.{Expr, Text, This, ClassOf, Read, Unary, Cast, Binary, Logical, Conditional}
+use Rattle.core_lowering_rules.specs.Trees.{Expr, Unknown, This, ClassOf, Read, Unary, Cast, Binary, Logical, Conditional}
 use Rattle.core_lowering_rules.specs.Trees.{Assign}
 use Rattle.core_lowering_rules.specs.Trees as tree
-use Rattle.core_lowering_rules.specs.Trees.{Combine, Count, Call, CallOn, New, NewArray, NewItems, Paren, Access, Named}
+use Rattle.core_lowering_rules.specs.Trees.{Combine, Count, Call, CallOn, New, NewBody, NewArray, NewItems, Paren, Access, Named}
+use Rattle.core_lowering_rules.specs.Trees.{ThisOf, Refer, ToExpr, ToType}
 use Rattle.core_lowering_rules.specs.Trees.{Selected, Element, NoAccess, Exprs, no_expr, expr_then, Init, Value}
 use Rattle.core_lowering_rules.specs.Trees.{Items, Inits}
 use Rattle.core_lowering_rules.specs.Trees.{no_init, init_then, count_exprs, count_inits}
@@ -21,7 +22,8 @@ use Rattle.core_lowering_rules.specs.ValueKinds.{ValueKind, Of, common_kind}
 use Rattle.core_lowering_rules.specs.Context.{Context, Code, op, choice, push_this, type_kind}
 use Rattle.core_lowering_rules.specs.Assignments.{kind_in}
 use Rattle.core_lowering_rules.specs.Calls.{own_callee}
-use Rattle.core_lowering_rules.specs.Expressions.{class_before, class_written, class_object, kind}
+use Rattle.core_lowering_rules.specs.Expressions.{class_before, class_written, class_object, this_object, this_kind}
+use Rattle.core_lowering_rules.specs.Expressions.{is_own_class, is_evaluated, referred, kind}
 use Rattle.core_lowering_rules.specs.Expressions.{access_kind, init_kind, cast, code, storage, passed, init_code}
 use Rattle.core_lowering_rules.specs.Expressions.{items_code}
 use Rattle.core_lowering_rules.proofs.Suits.{suits-common, joined_stack-top}
@@ -32,9 +34,8 @@ use Rattle.core_lowering_rules.proofs.KindedAccesses.{Leaves, LeavesMany, IsStor
 use Rattle.core_lowering_rules.proofs.KindedAccesses.{assigned-leaves}
 use Rattle.core_lowering_rules.proofs.KindedAccesses.{combined-leaves, counted-leaves, no_values, is-named, is-selected}
 use Rattle.core_lowering_rules.proofs.KindedAccesses.{is-element, kind_in-selected}
-use Rattle.core_lowering_rules.proofs.KindedCalls.{PassedTo, passed-none, passed-bare, passed-kind, is-own}
-use Rattle.core_lowering_rules.proofs.KindedCalls.{called-leaves}
-use Rattle.core_lowering_rules.proofs.KindedCalls.{called_on-leaves, not_made, made-leaves, many-more}
+use Rattle.core_lowering_rules.proofs.KindedArguments.{PassedTo, passed-none, passed-bare, passed-kind, many-more}
+use Rattle.core_lowering_rules.proofs.KindedCalls.{is-own, called-leaves, called_on-leaves, not_made, made-leaves}
 
 -- the kind of what is stored
 pub storage-kind : (context : Context) (a : Access) → kind_in (storage context a) ≡ access_kind context a
@@ -146,6 +147,25 @@ module _ (core : Core) (m : Method) (context : Context) (stands : Stands core m 
             );
       }
 
+  this_of-leaves : (b : Bool) →
+      Leaves core m (cond b (this_object context) (op context (Outside 0))) (cond b (this_kind context) (Of types.Other))
+  this_of-leaves true = this-by context.scope.is_static refl
+  this_of-leaves false = record { leaves = λ stack. (Opaque, tt, outside core m context.place [] stack 0 refl) }
+
+  referred-leaves : (b : Bool) {e : Code} {k : ValueKind} → Leaves core m e k →
+      Leaves core m (referred context b e) (Of types.Other)
+  referred-leaves true l =
+      record {
+        leaves = λ stack.
+            let value = l.leaves stack in (
+              Opaque,
+              tt,
+              followed core m value.2 (outside core m context.place (value.0 ∷ []) stack 1 refl),
+            );
+      }
+  referred-leaves false l =
+      record { leaves = λ stack. (Opaque, tt, outside core m context.place [] stack 0 refl) }
+
   mutual
     pub code-leaves : (e : Expr) → Leaves core m (code context e) (kind context e)
     code-leaves tree.Prim = record {
@@ -156,7 +176,7 @@ module _ (core : Core) (m : Method) (context : Context) (stands : Stands core m 
             (Plain ∷ []) stack refl refl refl refl,
       );
     }
-    code-leaves Text = record { leaves = λ stack. (Opaque, tt, outside core m context.place [] stack 0 refl) }
+    code-leaves Unknown = record { leaves = λ stack. (Opaque, tt, outside core m context.place [] stack 0 refl) }
     code-leaves tree.Null = record {
       leaves = λ stack. (
         Null,
@@ -167,6 +187,10 @@ module _ (core : Core) (m : Method) (context : Context) (stands : Stands core m 
     }
     code-leaves This = this-by context.scope.is_static refl
     code-leaves (ClassOf xs) = class-leaves (class_written context xs)
+    code-leaves (ThisOf xs) = this_of-leaves (is_own_class context (class_written context xs))
+    code-leaves (Refer (ToExpr e)) = referred-leaves (is_evaluated context e) (code-leaves e)
+    code-leaves (Refer ToType) =
+        record { leaves = λ stack. (Opaque, tt, outside core m context.place [] stack 0 refl) }
     code-leaves (Read a) =
         subst (λ k. Leaves core m (code context (Read a)) k) (storage-kind context a)
         (read-leaves core m context stands (storage context a) (is-storage a))
@@ -196,6 +220,9 @@ module _ (core : Core) (m : Method) (context : Context) (stands : Stands core m 
     code-leaves (New place t es) =
         made-leaves core m context stands place (type_kind context t) (count_exprs es)
         (λ kinds. passed context kinds es)
+        (passed-to es)
+    code-leaves (NewBody place t es) =
+        not_made core m context stands place (type_kind context t) (count_exprs es) (λ kinds. passed context kinds es)
         (passed-to es)
     code-leaves (NewArray place lengths) =
         not_made core m context stands place types.Other (count_exprs lengths) (λ kinds. passed context kinds lengths)

@@ -19,7 +19,7 @@ use Rattle.java_tree.specs.View.{ty_of}
 use Rattle.java_tree.specs.declared.unit.Member.{Member}
 use Rattle.java_tree.specs.declared.unit.Member.TheVariants as member
 use Rattle.java_resolver.specs.declared.infos.MethodInfo.{MethodInfo}
-use Rattle.java_resolver.specs.Declarations.{class_names, kinds_of, is_constructor}
+use Rattle.java_resolver.specs.Declarations.{class_names, kinds_of, further_arrays, is_constructor}
 use Rattle.java_resolver.specs.Words.{has_word}
 use Rattle.core_code.specs.declared.code.LockKind.TheVariants.{Own}
 use Rattle.core_code.specs.declared.code.Op.TheVariants.{PushClass, PushPrim, Drop}
@@ -36,13 +36,13 @@ use Rattle.core_lowering_rules.specs.TreesOf.{init_of}
 use Rattle.core_lowering_rules.specs.ValueKinds.{ValueKind, Of}
 use Rattle.core_lowering_rules.specs.ValueKinds as value
 use Rattle.core_lowering_rules.specs.Context.{Folder, Context, Guard, Itself, Code, op, push_this, push_own_class}
-use Rattle.core_lowering_rules.specs.Context.{push_owner, type_kind, made as made_code}
+use Rattle.core_lowering_rules.specs.Context.{push_owner, variable_kind_in, made as made_code}
 use Rattle.core_lowering_rules.specs.Assignments.{of_name, kind_in}
 use Rattle.core_lowering_rules.specs.Expressions.{init_kind, init_code}
-use Rattle.core_lowering_rules.specs.Scopes.{declared, after_all, after_return}
+use Rattle.core_lowering_rules.specs.Scopes.{of_type, after_all, after_return}
 use Rattle.core_lowering_rules.specs.Statements.{returned, closed, stmts}
 use Rattle.core_lowering_rules.specs.Methods.{Body, Default, Spelled, Unspelled, Source, result_of_tree, result_of}
-use Rattle.core_lowering_rules.specs.Methods.{this_kinds, entered}
+use Rattle.core_lowering_rules.specs.Methods.{this_kinds, entered, outside_methods}
 use Rattle.core_lowering_rules.specs.Methods.{parameters_declared, unread, field_begun, member_begun, fields_begun}
 use Rattle.core_lowering_rules.specs.Methods.{body_of, is_large}
 use Rattle.core_lowering_rules.specs.Methods.{locked, ended, spelled_code, method_code}
@@ -66,22 +66,21 @@ use Rattle.core_lowering_rules.proofs.KindedStatements.{returned-keeps, block-ke
 
 -- ---- parameters
 
-abbrev parameter_kind : Context → ParameterTree → Kind
-parameter_kind context p = type_kind context (ty_of p.kind)
+abbrev kind_there : Context → ParameterTree → Kind
+kind_there context p = (variable_kind_in context (ty_of p.kind) (further_arrays p)).kind
 
 kinds-parameters : (context : Context) (ps : List ParameterTree) →
-    (parameters_declared context ps).kinds ≡ context.kinds ++ map (parameter_kind context) ps
+    (parameters_declared context ps).kinds ≡ context.kinds ++ map (kind_there context) ps
 kinds-parameters context [] = sym (append-nil context.kinds)
 kinds-parameters context (p ∷ ps) =
-    let k = type_kind context (ty_of p.kind) in
-    kinds-parameters (declared context k p.name) ps
-    ∙ append_assoc context.kinds (k ∷ []) (map (parameter_kind context) ps)
+    kinds-parameters (of_type context (ty_of p.kind) (further_arrays p) p.name) ps
+    ∙ append_assoc context.kinds (kind_there context p ∷ []) (map (kind_there context) ps)
 
 pub guards-parameters : (context : Context) (ps : List ParameterTree) →
     (parameters_declared context ps).guards ≡ context.guards
 guards-parameters context [] = refl
 guards-parameters context (p ∷ ps) =
-    guards-parameters (declared context (type_kind context (ty_of p.kind)) p.name) ps
+    guards-parameters (of_type context (ty_of p.kind) (further_arrays p) p.name) ps
 
 module _ (core : Core) (m : Method) where
   -- ---- fields
@@ -143,10 +142,7 @@ module _ (core : Core) (m : Method) where
   member-keeps context s (member.Outside h) = keeps-nothing core m
   member-keeps context s (member.Skipped place) = keeps-nothing core m
 
-  abbrev without_variables : Context → Context
-  without_variables context = record context { scope = record context.scope { variables = [] } }
-
-  bare-stands : (context : Context) → Stands core m context → Stands core m (without_variables context)
+  bare-stands : (context : Context) → Stands core m context → Stands core m (outside_methods context)
   bare-stands context s =
       record {
         known = s.known;
@@ -160,8 +156,8 @@ module _ (core : Core) (m : Method) where
   fields-keep : (context : Context) → Stands core m context → (members : List Member) →
       Keeps core m (fields_begun context members)
   fields-keep context s members =
-      each-keeps (member_begun (without_variables context))
-      (member-keeps (without_variables context) (bare-stands context s)) members
+      each-keeps (member_begun (outside_methods context))
+      (member-keeps (outside_methods context) (bare-stands context s)) members
 
   -- ---- bodies
 
@@ -282,7 +278,7 @@ IsRightResult info (result.Of t) = Unit {0}
 abbrev pub IsRight : List (List ℕ) → MethodInfo → Body → Type 0
 IsRight names info Default =
     (info.result ≡ types.Declared info.class) × (info.is_static ≡ false) × (info.parameters ≡ [])
-IsRight names info (Spelled t) = IsRightResult info t.result × (info.parameters ≡ kinds_of names t.parameters)
+IsRight names info (Spelled t) = IsRightResult info t.result × (info.parameters ≡ kinds_of info.hidden names t.parameters)
 IsRight names info Unspelled = Unit {0}
 
 module _ (core : Core) (folder : Folder) (known : FolderStands core folder) (info : MethodInfo) (members : List Member)

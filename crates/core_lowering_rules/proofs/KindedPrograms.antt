@@ -26,6 +26,7 @@ use Rattle.java_resolver.specs.Declarations.{method_info, default_constructor, m
 use Rattle.java_resolver.specs.Declarations.{declared_methods}
 use Rattle.java_resolver.specs.Declarations.{member_is_constructor, default_constructors, class_methods, is_constructor}
 use Rattle.java_resolver.specs.Declarations.{result_kind, is_constructor_head, head_kind}
+use Rattle.java_resolver.specs.Hidden.{hidden_in}
 use Rattle.java_resolver.specs.Words.{has_word}
 use Rattle.core_code.specs.declared.code.Reason.{Reason}
 use Rattle.core_code.specs.Core.{Core, Method}
@@ -111,11 +112,11 @@ IsRightSource names s = IsRight names s.info s.body
 result-right : (names : List (List ℕ)) (c : ClassId) (t : MethodTree) (r : ResultTree) → t.result ≡ r →
     IsRightResult (method_info names c t) r
 result-right names c t result.Constructor e = (
-  ap (result_kind names c) e,
+  ap (λ r. result_kind (hidden_in t) names c r t.arrays) e,
   ap (λ r. has_word (codes "static") t.modifiers && not (is_constructor r)) e
       ∙ and-false (has_word (codes "static") t.modifiers),
 )
-result-right names c t result.Void e = ap (result_kind names c) e
+result-right names c t result.Void e = ap (λ r. result_kind (hidden_in t) names c r t.arrays) e
 result-right names c t (result.Of k) e = tt
 
 member-right : (names : List (List ℕ)) (c : ClassId) (tree : ClassTree) (x : Member) →
@@ -142,7 +143,7 @@ abbrev IsMaker : MethodInfo → Type 0
 IsMaker info = info.is_constructor ≡ true → (info.result ≡ types.Declared info.class) × (info.is_static ≡ false)
 
 method-maker : (names : List (List ℕ)) (c : ClassId) (t : MethodTree) (r : ResultTree) → t.result ≡ r →
-    is_constructor r ≡ true → (result_kind names c t.result ≡ types.Declared c)
+    is_constructor r ≡ true → (result_kind (hidden_in t) names c t.result t.arrays ≡ types.Declared c)
     × ((has_word (codes "static") t.modifiers && not (is_constructor t.result)) ≡ false)
 method-maker names c t result.Constructor e h =
     let right = result-right names c t result.Constructor e in (right.0, right.1)

@@ -25,7 +25,7 @@ use Rattle.core_lowering_rules.specs.Trees.{Assert}
 use Rattle.core_lowering_rules.specs.Trees.{Switch, Locked, Try, Finally, Stmts, no_stmt, stmt_then, Groups, no_group}
 use Rattle.core_lowering_rules.specs.Trees.{group_then}
 use Rattle.core_lowering_rules.specs.Context.{Context, Guard, Result, Itself, Nothing, Value, Code, ends_of, op}
-use Rattle.core_lowering_rules.specs.Context.{type_kind, within}
+use Rattle.core_lowering_rules.specs.Context.{type_kind, variable_kind_in, within}
 use Rattle.core_lowering_rules.specs.Expressions.{kind, init_kind}
 use Rattle.core_lowering_rules.specs.Scopes.{next_variable, declared, all_declared, started, back_in, after, after_all}
 use Rattle.core_lowering_rules.specs.Scopes.{after_groups, new_variables, in_loop, in_switch, in_labelled, with_label}
@@ -119,14 +119,14 @@ module _ (core : Core) (m : Method) where
       (followed core m (followed core m value.2 c.runs) (set-drops context s v k c.to there c.fitting))
 
   begun_all-keeps : (context : Context) (t : Ty) (vs : List Variable) → Stands core m context →
-      HasKinds m (all_declared context (type_kind context t) vs) → Kept (begun_all context (type_kind context t) vs)
+      HasKinds m (all_declared context t vs) → Kept (begun_all context t vs)
   begun_all-keeps context t [] s h = none
   begun_all-keeps context t (v ∷ vs) s h =
-      let k = type_kind context t in
+      let k = variable_kind_in context t v.arrays in
       let inside = declared context k v.name in
-      let own = has-earlier m inside (all_declared inside k vs) (grows-all inside t vs) h in
+      let own = has-earlier m inside (all_declared inside t vs) (grows-all inside t vs) h in
       let stands = declared-stands core m context k v.name s own in
-      both (begun-keeps inside stands (next_variable context) k
+      both (begun-keeps inside stands (next_variable context) k.kind
       (declared-there m context k v.name own) v.initialiser) (begun_all-keeps inside t vs stands h)
 
   start-keeps : (context : Context) (i : Start) → Stands core m context → HasKinds m (started context i) →
@@ -295,11 +295,12 @@ module _ (core : Core) (m : Method) where
       let inside = with_resource context r in
       let own = has-earlier m inside (with_resources inside rs) (grows-resources inside rs) h in
       let stands = resource-stands core m context r s own in
-      let there : HasKinds m (declared context k r.name) = record { rest = own.rest; all = own.all } in
+      let known = variable_kind_in context r.kind 0 in
+      let there : HasKinds m (declared context known r.name) = record { rest = own.rest; all = own.all } in
       let value = (code-leaves core m inside stands r.value).leaves [] in
       let c = comes core m inside k (kind inside r.value) value.0 [] value.1 in
       both (keeps-value core m (followed core m (followed core m value.2 c.runs)
-      (set-drops inside stands (next_variable context) k c.to (declared-there m context k r.name there) c.fitting)))
+      (set-drops inside stands (next_variable context) k c.to (declared-there m context known r.name there) c.fitting)))
       (resources-keep inside rs stands h)
 
   -- ---- statements
@@ -365,17 +366,18 @@ module _ (core : Core) (m : Method) where
         closed-keeps context behind ends (three (start-keeps context i s begins) (tested-keeps outer outer_stands c)
         (broken-keeps outer (is_endless c) (stmt inside b) (keeps-loop core m turn)))
     stmt-keeps context s (ForEach t x e b) h =
-        let k = type_kind context t in
-        let outer = declared context k x in
+        let known = variable_kind_in context t 0 in
+        let k = known.kind in
+        let outer = declared context known x in
         let inside = in_loop outer in
         let behind = after inside b in
         let own : HasKinds m behind = record { rest = h.rest; all = h.all } in
         let inner = has-earlier m inside behind (grows-after inside b) own in
         let begins : HasKinds m outer = record { rest = inner.rest; all = inner.all } in
-        let outer_stands = declared-stands core m context k x s begins in
+        let outer_stands = declared-stands core m context known x s begins in
         let stands = loop-stands outer outer_stands in
         let first = keeps-value core m (followed core m (outside core m context.place [] [] 0 refl)
-        (set-drops context s (next_variable context) k Opaque (declared-there m context k x begins) (fits-opaque k))) in
+        (set-drops context s (next_variable context) k Opaque (declared-there m context known x begins) (fits-opaque k))) in
         closed-keeps context behind (after-stands core m inside b stands own) (both (run-keeps context s e)
         (broken-keeps outer false (stmt inside b) (keeps-loop core m
         (both first (round-keeps outer (stmt-keeps inside stands b own))))))

@@ -4,6 +4,7 @@ pub mod Runs
 pub mod FoundElements
 pub mod Stands
 pub mod KindedAccesses
+pub mod KindedArguments
 pub mod KindedCalls
 pub mod KindedExpressions
 pub mod ScopeSteps
@@ -24,10 +25,13 @@ pub mod LoweredExpressions
 pub mod LoweredScopes
 pub mod LoweredGroups
 pub mod LoweredStatements
+pub mod TreeLayers
+pub mod TreeForms
 pub mod TreeSteps
 pub mod KeptTrees
 pub mod KeptStatements
 pub mod KeptPlaces
+pub mod KeptMarks
 pub mod LoweredMethods
 pub mod InRangeCode
 pub mod NamedCode

@@ -1,5 +1,5 @@
 -- A fact of lowered code holds of the code of all expressions.
-use Rattle.std.proofs.Common.{◌≡◌, ℕ, suc, Bool, true, false, cond, List, [], ◌∷◌, ◌++◌, Option, Some, None, refl}
+use Rattle.std.proofs.Common.{◌≡◌, ℕ, suc, ◌-◌, ◌==◌, length, Bool, true, false, cond, List, [], ◌∷◌, ◌++◌, Option, Some, None, refl}
 use Rattle.std.proofs.Common.{subst, sym}
 use Rattle.std.proofs.lemmas.Option.{same_Some, none-some}
 use Rattle.racer_base.specs.declared.ids.ClassId.{ClassId}
@@ -18,16 +18,17 @@ use Rattle.java_resolver.specs.Meanings.{field_named, found}
 use Rattle.core_code.specs.declared.code.Reason.{Reason}
 use Rattle.core_code.specs.declared.code.Op.{Op as CoreOp}
 use Rattle.core_code.specs.declared.code.Op.TheVariants.{Push, PushClass, PushPrim, PushNull, New as NewOp, Dup, Drop}
-use Rattle.core_code.specs.declared.code.Op.TheVariants.{Get, Put, Set, Prim, Outside}
-use Rattle.core_lowering_rules.specs.Trees.{Expr, Text, This, ClassOf, Read, Unary, Cast, Binary, Logical, Conditional}
-use Rattle.core_lowering_rules.specs.Trees.{Assign, Combine, Count, Call, CallOn, New, NewArray, NewItems, Paren}
+use Rattle.core_code.specs.declared.code.Op.TheVariants.{Get, Put, Set, Prim, Outside, Call as CallOp, Unread}
+use Rattle.core_lowering_rules.specs.Trees.{Expr, Unknown, This, ClassOf, Read, Unary, Cast, Binary, Logical, Conditional}
+use Rattle.core_lowering_rules.specs.Trees.{Assign, Combine, Count, Call, CallOn, New, NewBody, NewArray, NewItems, Paren}
+use Rattle.core_lowering_rules.specs.Trees.{ThisOf, Refer, ToExpr, ToType}
 use Rattle.core_lowering_rules.specs.Trees.{Access}
 use Rattle.core_lowering_rules.specs.Trees.{Named, Selected, Element, NoAccess, Exprs, no_expr, expr_then, Init, Value}
 use Rattle.core_lowering_rules.specs.Trees.{Items, Inits, no_init, init_then, count_exprs, count_inits}
 use Rattle.core_lowering_rules.specs.Trees as tree
 use Rattle.core_lowering_rules.specs.ValueKinds.{ValueKind, Of, is_converted}
 use Rattle.core_lowering_rules.specs.ValueKinds as value
-use Rattle.core_lowering_rules.specs.Context.{Context, Code, op, converted, push_this, push_own_class}
+use Rattle.core_lowering_rules.specs.Context.{Context, Code, op, op_at, converted, push_this, push_own_class}
 use Rattle.core_lowering_rules.specs.Context.{push_owner}
 use Rattle.core_lowering_rules.specs.Context.{type_kind, meaning_of, is_analysed}
 use Rattle.core_lowering_rules.specs.Assignments.{Storage, InVariable, InField, Elsewhere, in_field, of_meaning}
@@ -36,18 +37,19 @@ use Rattle.core_lowering_rules.specs.Assignments.{of_class, of_object, selected,
 use Rattle.core_lowering_rules.specs.Assignments.{counted, field_at}
 use Rattle.core_lowering_rules.specs.Calls.{Callee, Missing, OfClass, OfObject, info_at, callee_of, callee_found}
 use Rattle.core_lowering_rules.specs.Calls.{callee_in}
-use Rattle.core_lowering_rules.specs.Calls.{if_static, own_callee, callee_on, parameter_kinds, call_at}
+use Rattle.core_lowering_rules.specs.Calls.{if_static, own_callee, callee_on, parameters_of, parameter_kinds, with_object, call_at}
 use Rattle.core_lowering_rules.specs.Calls.{Passing, called, called_on_value, called_on, constructor_of}
 use Rattle.core_lowering_rules.specs.Calls.{constructor_among}
 use Rattle.core_lowering_rules.specs.Calls.{constructor_in, made_by, made}
-use Rattle.core_lowering_rules.specs.Expressions.{class_before, class_written, class_object, kind, cast, code}
+use Rattle.core_lowering_rules.specs.Expressions.{class_before, class_written, class_object, this_object, is_own_class}
+use Rattle.core_lowering_rules.specs.Expressions.{is_evaluated, referred, kind, cast, code}
 use Rattle.core_lowering_rules.specs.Expressions.{storage, passed, init_code, items_code}
 use Rattle.core_lowering_rules.proofs.FoundElements.{field-there}
 use Rattle.core_lowering_rules.proofs.LoweredFacts.{Tests, Grounded, Fact, is_value, joined, joined_3, joined_4, either}
 use Rattle.core_lowering_rules.proofs.LoweredFacts.{by_test, longer, shorter}
 use Rattle.core_lowering_rules.proofs.PlacedTrees.{PlacedExpr, PlacedAccess, PlacedExprs, PlacedInit, PlacedInits}
 use Rattle.core_lowering_rules.proofs.StatusesUnseen.{with_statuses, named-same, selected-same, callee-same}
-use Rattle.core_lowering_rules.proofs.StatusesUnseen.{class_before-same, kind-same}
+use Rattle.core_lowering_rules.proofs.StatusesUnseen.{class_before-same, is_evaluated-same, kind-same}
 
 -- ---- what is stored where
 
@@ -268,9 +270,39 @@ module _ (f : Fact) (statuses : List (Option Reason)) (context : Context) (g : G
   on-there None (Of (types.Declared c)) x count = in-there c x.text count
   on-there None (Of types.Other) x count = tt
 
-  call-holds : (place : Place) (m : MethodId) (n : ℕ) → IsPlace place → f.tests.is_method m ≡ true →
-      f.Holds (call_at other place m n) (call_at context place m n)
-  call-holds place m n h k = f.called place m n (is_analysed other m) (is_analysed context m) h k
+  -- with so many values, of which some may be made one first, or with so many others
+  abbrev either_called : Place → MethodId → (one_by_one : Bool) → (given taken left : ℕ) → (is_read : Bool) → Code
+  either_called place m q i j n b =
+      cond b (cond q [] (op context (Outside n)) ++ op_at place (CallOp m j)) (op_at place (Unread m i))
+
+  made-one : (q : Bool) (n : ℕ) → f.Holds (cond q [] (op context (Outside n))) (cond q [] (op context (Outside n)))
+  made-one q n = by_test f q f.nothing (here (Outside n) refl)
+
+  made-added : (q : Bool) (n : ℕ) → f.Holds (cond q [] (op context (Outside n))) []
+  made-added true n = f.nothing
+  made-added false n = f.added context.place (Outside n) g.here refl refl
+
+  made-missing : (q : Bool) (n : ℕ) → f.Holds [] (cond q [] (op context (Outside n)))
+  made-missing true n = f.nothing
+  made-missing false n = f.missing context.place (Outside n) g.here refl refl
+
+  either-called : (place : Place) (m : MethodId) (q : Bool) (i j n : ℕ) → IsPlace place → f.tests.is_method m ≡ true →
+      (a b : Bool) → f.Holds (either_called place m q i j n a) (either_called place m q i j n b)
+  either-called place m q i j n h k true true = joined f (made-one q n) (f.called place m j j true true h k)
+  either-called place m q i j n h k true false =
+      f.followed (cond q [] (op context (Outside n))) (op_at place (CallOp m j)) [] (op_at place (Unread m i))
+      (made-added q n) (f.called place m j i true false h k)
+  either-called place m q i j n h k false true =
+      f.followed [] (op_at place (Unread m i)) (cond q [] (op context (Outside n))) (op_at place (CallOp m j))
+      (made-missing q n) (f.called place m i j false true h k)
+  either-called place m q i j n h k false false = f.called place m i i false false h k
+
+  call-holds : (place : Place) (m : MethodId) (has_object : Bool) (n : ℕ) → IsPlace place →
+      f.tests.is_method m ≡ true → f.Holds (call_at other place m has_object n) (call_at context place m has_object n)
+  call-holds place m has_object n h k =
+      let parameters = length (parameters_of (info_at context m)) in
+      either-called place m (n == parameters) (with_object has_object n) (with_object has_object parameters)
+      (n - (parameters - 1)) h k (is_analysed other m) (is_analysed context m)
 
   -- arguments, to whatever they are converted
   abbrev ArgumentsHold : Passing → Passing → Type 0
@@ -280,20 +312,20 @@ module _ (f : Fact) (statuses : List (Option Reason)) (context : Context) (g : G
       IsThere f.tests callee → f.Holds (called other place n a callee) (called context place n b callee)
   called-holds place n a b Missing h all k = joined f (all [] []) (here (Outside n) refl)
   called-holds place n a b (OfClass m) h all k =
-      joined f (all (parameter_kinds other m) (parameter_kinds context m)) (call-holds place m n h k)
+      joined f (all (parameter_kinds other m n) (parameter_kinds context m n)) (call-holds place m false n h k)
   called-holds place n a b (OfObject m) h all k =
-      joined_3 f this-pushed (all (parameter_kinds other m) (parameter_kinds context m))
-      (call-holds place m (suc n) h k)
+      joined_3 f this-pushed (all (parameter_kinds other m n) (parameter_kinds context m n))
+      (call-holds place m true n h k)
 
   on_value-holds : (place : Place) (d e : Code) (n : ℕ) (a b : Passing) (callee : Callee) → IsPlace place →
       f.Holds d e → ArgumentsHold a b → IsThere f.tests callee →
       f.Holds (called_on_value other place d n a callee) (called_on_value context place e n b callee)
   on_value-holds place d e n a b Missing h p all k = joined_3 f p (all [] []) (here (Outside (suc n)) refl)
   on_value-holds place d e n a b (OfClass m) h p all k =
-      joined_4 f p (here Drop refl) (all (parameter_kinds other m) (parameter_kinds context m))
-      (call-holds place m n h k)
+      joined_4 f p (here Drop refl) (all (parameter_kinds other m n) (parameter_kinds context m n))
+      (call-holds place m false n h k)
   on_value-holds place d e n a b (OfObject m) h p all k =
-      joined_3 f p (all (parameter_kinds other m) (parameter_kinds context m)) (call-holds place m (suc n) h k)
+      joined_3 f p (all (parameter_kinds other m n) (parameter_kinds context m n)) (call-holds place m true n h k)
 
   called_on-holds : (place : Place) (o : Option ClassId) (d e : Code) (n : ℕ) (a b : Passing) (callee : Callee) →
       IsPlace place → f.Holds d e → ArgumentsHold a b → IsThere f.tests callee →
@@ -320,8 +352,8 @@ module _ (f : Fact) (statuses : List (Option Reason)) (context : Context) (g : G
       f.Holds (made_by other place c n a o) (made_by context place c n b o)
   made_by-holds place c n a b None e h k all = joined f (all [] []) (f.single place (Outside n) h refl)
   made_by-holds place c n a b (Some m) e h k all =
-      joined_3 f (f.single place (NewOp c) h k) (all (parameter_kinds other m) (parameter_kinds context m))
-      (call-holds place m (suc n) h (constructor-there (found context.folder.methods c constructor_name n) m e))
+      joined_3 f (f.single place (NewOp c) h k) (all (parameter_kinds other m n) (parameter_kinds context m n))
+      (call-holds place m true n h (constructor-there (found context.folder.methods c constructor_name n) m e))
 
   made-holds : (place : Place) (k : Kind) (n : ℕ) (a b : Passing) → IsPlace place → f.tests.is_kind k ≡ true →
       ArgumentsHold a b → f.Holds (made other place k n a) (made context place k n b)
@@ -339,7 +371,7 @@ module _ (f : Fact) (statuses : List (Option Reason)) (context : Context) (g : G
 
   written-there : (xs : List Ident) (c : ClassId) → class_written context xs ≡ Some c → f.tests.is_class c ≡ true
   written-there [] c e = absurd (none-some _ e)
-  written-there (x ∷ []) c e = g.known.named x.text c e
+  written-there (x ∷ []) c e = g.known.named context.scope.hidden x.text c e
   written-there (x ∷ y ∷ xs) c e = absurd (none-some _ e)
 
   cast-holds : (k : Kind) → f.Holds (cast other k) (cast context k)
@@ -347,13 +379,26 @@ module _ (f : Fact) (statuses : List (Option Reason)) (context : Context) (g : G
   cast-holds (types.Declared c) = here (Outside 1) refl
   cast-holds types.Other = here (Outside 1) refl
 
+  this-holds : f.Holds (this_object other) (this_object context)
+  this-holds = by_test f context.scope.is_static (here (Outside 0) refl) this-pushed
+
+  referred-holds : (b : Bool) {d e : Code} → f.Holds d e → f.Holds (referred other b d) (referred context b e)
+  referred-holds true p = joined f p (here (Outside 1) refl)
+  referred-holds false p = here (Outside 0) refl
+
   mutual
     pub code-holds : (e : Expr) → PlacedExpr f.tests.is_place e → f.Holds (code other e) (code context e)
     code-holds tree.Prim h = here PushPrim refl
-    code-holds Text h = here (Outside 0) refl
+    code-holds Unknown h = here (Outside 0) refl
     code-holds tree.Null h = here PushNull refl
-    code-holds This h = by_test f context.scope.is_static (here (Outside 0) refl) this-pushed
+    code-holds This h = this-holds
     code-holds (ClassOf xs) h = object-of_class (class_written context xs) (written-there xs)
+    code-holds (ThisOf xs) h =
+        by_test f (is_own_class context (class_written context xs)) this-holds (here (Outside 0) refl)
+    code-holds (Refer ToType) h = here (Outside 0) refl
+    code-holds (Refer (ToExpr e)) h =
+        subst (λ (b : Bool). f.Holds (referred other b (code other e)) (code context (Refer (ToExpr e))))
+        (sym (is_evaluated-same statuses context e)) (referred-holds (is_evaluated context e) (code-holds e h))
     code-holds (Read a) h = read-holds (storage other a) (storage context a) (storage-holds a h)
     code-holds (Unary e) h = joined f (code-holds e h) (here (Prim 1) refl)
     code-holds (Cast t e) h = joined f (code-holds e h) (cast-holds (type_kind context t))
@@ -390,7 +435,9 @@ module _ (f : Fact) (statuses : List (Option Reason)) (context : Context) (g : G
         (on-there c (kind context e) x n)))
     code-holds (New place t es) h =
         made-holds place (type_kind context t) (count_exprs es) (λ ks. passed other ks es)
-        (λ ks. passed context ks es) h.0 (g.known.types t) (passed-holds es h.1)
+        (λ ks. passed context ks es) h.0 (g.known.types context.scope.hidden t) (passed-holds es h.1)
+    code-holds (NewBody place t es) h =
+        joined f (passed-holds es h.1 [] []) (f.single place (Outside (count_exprs es)) h.0 refl)
     code-holds (NewArray place lengths) h =
         joined f (passed-holds lengths h.1 [] []) (f.single place (Outside (count_exprs lengths)) h.0 refl)
     code-holds (NewItems place items) h =

@@ -13,7 +13,7 @@ use Rattle.racer_base.specs.declared.ids.Place.{Place}
 use Rattle.java_tree.specs.Trees.{Ty}
 use Rattle.java_resolver.specs.declared.infos.FieldInfo.{FieldInfo}
 use Rattle.java_resolver.specs.declared.infos.MethodInfo.{MethodInfo}
-use Rattle.java_resolver.specs.TypeKinds.{class_named, kind_of}
+use Rattle.java_resolver.specs.TypeKinds.{class_seen, kind_of}
 use Rattle.java_resolver.specs.Declarations.{class_names}
 use Rattle.core_code.specs.declared.code.LockKind.{LockKind}
 use Rattle.core_code.specs.declared.code.Op.{Op as CoreOp}
@@ -65,9 +65,9 @@ pub record GroundedFolder (t : Tests) (folder : Folder) : Type 0 where
   pub fields : (f : FieldId) (info : FieldInfo) → slice_get folder.fields f.0 ≡ Some info →
       t.is_class info.class ≡ true
   pub methods : (m : MethodId) (info : MethodInfo) → slice_get folder.methods m.0 ≡ Some info → t.is_method m ≡ true
-  pub named : (name : List ℕ) (c : ClassId) → class_named (class_names folder.classes) name ≡ Some c →
-      t.is_class c ≡ true
-  pub types : (ty : Ty) → t.is_kind (kind_of (class_names folder.classes) ty) ≡ true
+  pub named : (hidden : List (List ℕ)) (name : List ℕ) (c : ClassId) →
+      class_seen hidden (class_names folder.classes) name ≡ Some c → t.is_class c ≡ true
+  pub types : (hidden : List (List ℕ)) (ty : Ty) → t.is_kind (kind_of hidden (class_names folder.classes) ty) ≡ true
 
 -- the same of the method of some code
 pub record Grounded (t : Tests) (context : Context) : Type 0 where
@@ -89,8 +89,9 @@ pub record Fact : Type 1 where
   pub chosen : (a b c d : Code) → Holds a c → Holds b d → Holds (choice a b) (choice c d)
   pub single : (p : Place) (o : CoreOp) → tests.is_place p ≡ true →
       is_value tests.is_class tests.is_method o ≡ true → Holds (op_at p o) (op_at p o)
-  pub called : (p : Place) (m : MethodId) (n : ℕ) (a b : Bool) → tests.is_place p ≡ true → tests.is_method m ≡ true →
-      Holds (op_at p (cond a (Call m n) (Unread m n))) (op_at p (cond b (Call m n) (Unread m n)))
+  pub called : (p : Place) (m : MethodId) (j k : ℕ) (a b : Bool) → tests.is_place p ≡ true →
+      tests.is_method m ≡ true →
+      Holds (op_at p (cond a (Call m j) (Unread m j))) (op_at p (cond b (Call m k) (Unread m k)))
   pub missing : (p : Place) (o : CoreOp) → tests.is_place p ≡ true →
       is_value tests.is_class tests.is_method o ≡ true → named_by o ≡ [] → Holds [] (op_at p o)
   pub added : (p : Place) (o : CoreOp) → tests.is_place p ≡ true →

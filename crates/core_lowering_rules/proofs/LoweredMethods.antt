@@ -26,7 +26,7 @@ use Rattle.core_lowering_rules.specs.Assignments.{Storage, of_name, kind_in}
 use Rattle.core_lowering_rules.specs.Expressions.{init_kind}
 use Rattle.core_lowering_rules.specs.Scopes.{after_all}
 use Rattle.core_lowering_rules.specs.Statements.{returned, closed, stmts}
-use Rattle.core_lowering_rules.specs.Methods.{Body, Default, Spelled, Unspelled, Source, parameters_declared, unread}
+use Rattle.core_lowering_rules.specs.Methods.{Body, Default, Spelled, Unspelled, Source, parameters_declared, outside_methods, unread}
 use Rattle.core_lowering_rules.specs.Methods.{field_begun, member_begun, fields_begun, body_of, locked, ended}
 use Rattle.core_lowering_rules.specs.Methods.{spelled_code, code_in, kinds_in, is_large}
 use Rattle.core_lowering_rules.specs.Conditions.{initialiser_places, variable_places, member_places}
@@ -110,7 +110,7 @@ module _ (f : Fact) (statuses : List (Option Reason)) where
   fields-hold : (c : Context) → Grounded f.tests c → (xs : List Member) →
       list_all test (flat_map member_places xs) ≡ true → f.Stands (fields_begun (other c) xs) (fields_begun c xs)
   fields-hold c g xs h =
-      let bare : Context = record c { scope = record c.scope { variables = [] } } in
+      let bare : Context = outside_methods c in
       let grounded : Grounded f.tests bare =
       record {
         known = g.known;

@@ -1,5 +1,5 @@
 -- Contexts side by side, one with other statuses, as declarations and statements go by.
-use Rattle.std.proofs.Common.{◌≡◌, Bool, true, false, cond, List, [], ◌∷◌, ◌++◌, Option, Some, None}
+use Rattle.std.proofs.Common.{◌≡◌, ℕ, ◌==◌, Bool, true, false, cond, List, [], ◌∷◌, ◌++◌, Option, Some, None}
 use Rattle.std.proofs.Common.{refl, subst, sym, ap, ◌∙◌}
 use Rattle.std.specs.Prelude.{is_some}
 use Rattle.racer_base.specs.declared.ids.VarId.{VarId}
@@ -11,14 +11,14 @@ use Rattle.core_code.specs.declared.code.Reason.{Reason}
 use Rattle.core_lowering_rules.specs.Trees.{Stmt}
 use Rattle.core_lowering_rules.specs.Trees.{Stmts, Groups}
 use Rattle.core_lowering_rules.specs.Context.{Context, Guard}
-use Rattle.core_lowering_rules.specs.Context.{type_kind}
-use Rattle.core_lowering_rules.specs.Scopes.{declared, back_in, after, after_all, after_groups}
+use Rattle.core_lowering_rules.specs.Context.{type_kind, variable_kind_in}
+use Rattle.core_lowering_rules.specs.Scopes.{of_type, of_catch, back_in, after, after_all, after_groups}
 use Rattle.core_lowering_rules.specs.Scopes.{in_loop}
 use Rattle.core_lowering_rules.specs.Scopes.{in_guard, out_of_guard, returned_variable, with_variable}
 use Rattle.core_lowering_rules.specs.Scopes.{after_return, after_last}
 use Rattle.core_lowering_rules.proofs.FoundElements.{Each, each-append}
 use Rattle.core_lowering_rules.proofs.LoweredFacts.{Grounded, GroundedFolder, Fact}
-use Rattle.core_lowering_rules.proofs.ScopeSteps.{Sides, with_sides, return_in, IsBlind, AreBlind, ScopeFact, of_type}
+use Rattle.core_lowering_rules.proofs.ScopeSteps.{Sides, with_sides, return_in, IsBlind, AreBlind, ScopeFact}
 use Rattle.core_lowering_rules.proofs.ScopeSteps.{goes-loop}
 use Rattle.core_lowering_rules.proofs.ScopeSteps.{goes-after}
 use Rattle.core_lowering_rules.proofs.ScopeSteps.{goes-after_all, goes-groups}
@@ -59,24 +59,34 @@ module _ (f : Fact) (statuses : List (Option Reason)) where
   one-more : (kinds : List Kind) (k : Kind) → AreKinds kinds → f.tests.is_kind k ≡ true → AreKinds (kinds ++ k ∷ [])
   one-more kinds k all h = each-append (λ k. f.tests.is_kind k ≡ true) kinds (k ∷ []) all (h, tt)
 
-  pub declares : (x c : Context) (t : Ty) (name : Ident) → Pair x c → Pair (of_type x t name) (of_type c t name)
-  declares x c t name b =
+  -- an array is of kind Other
+  other-there : (c : Context) → Grounded f.tests c → f.tests.is_kind types.Other ≡ true
+  other-there c g = let h = g.known in h.types [] (Typed (Plain []) 1)
+
+  with-there : (c : Context) → Grounded f.tests c → (k : Kind) → f.tests.is_kind k ≡ true → (b : Bool) →
+      f.tests.is_kind (cond b k types.Other) ≡ true
+  with-there c g k h true = h
+  with-there c g k h false = other-there c g
+
+  pub declares : (x c : Context) (t : Ty) (n : ℕ) (name : Ident) → Pair x c →
+      Pair (of_type x t n name) (of_type c t n name)
+  declares x c t n name b =
       let g = b.grounded in
       record {
-        same = ap (λ (y : Context). of_type y t name) b.same;
-        grounded = regrounded c (of_type c t name) g refl refl refl refl
-            (one-more c.kinds (type_kind c t) g.kinds (let h = g.known in h.types t));
+        same = ap (λ (y : Context). of_type y t n name) b.same;
+        grounded = regrounded c (of_type c t n name) g refl refl refl refl
+            (one-more c.kinds (variable_kind_in c t n).kind g.kinds
+            (with-there c g (type_kind c t) (let h = g.known in h.types c.scope.hidden t) (n == 0)));
       }
 
-  -- the parameter of a catch clause; an array is of kind Other
-  pub names : (x c : Context) (name : Ident) → Pair x c →
-      Pair (declared x types.Other name) (declared c types.Other name)
+  -- the parameter of a catch clause
+  pub names : (x c : Context) (name : Ident) → Pair x c → Pair (of_catch x name) (of_catch c name)
   names x c name b =
       let g = b.grounded in
       record {
-        same = ap (λ (y : Context). declared y types.Other name) b.same;
-        grounded = regrounded c (declared c types.Other name) g refl refl refl refl
-            (one-more c.kinds types.Other g.kinds (let h = g.known in h.types (Typed (Plain []) 1)));
+        same = ap (λ (y : Context). of_catch y name) b.same;
+        grounded = regrounded c (of_catch c name) g refl refl refl refl
+            (one-more c.kinds types.Other g.kinds (other-there c g));
       }
 
   -- behind a block, with the scope before it

@@ -18,12 +18,12 @@ use Rattle.core_lowering_rules.specs.Trees.{Switch}
 use Rattle.core_lowering_rules.specs.Trees.{Locked, Try, Finally, Stmts, no_stmt, stmt_then, Groups, no_group}
 use Rattle.core_lowering_rules.specs.Trees.{group_then}
 use Rattle.core_lowering_rules.specs.Context.{Context, Guard, Itself, Nothing, Value, Result, Code, ends_of, op}
-use Rattle.core_lowering_rules.specs.Context.{type_kind}
+use Rattle.core_lowering_rules.specs.Context.{type_kind, variable_kind_in}
 use Rattle.core_lowering_rules.specs.Context.{within, guarded}
 use Rattle.core_lowering_rules.specs.Expressions.{kind, code, init_kind}
 use Rattle.core_lowering_rules.specs.Scopes.{next_variable, started, back_in, after, after_all, after_groups}
 use Rattle.core_lowering_rules.specs.Scopes.{new_variables, in_loop, in_switch, in_labelled, with_label, is_loop}
-use Rattle.core_lowering_rules.specs.Scopes.{break_to}
+use Rattle.core_lowering_rules.specs.Scopes.{break_to, of_type}
 use Rattle.core_lowering_rules.specs.Scopes.{continue_to, in_guard, out_of_guard, returned_variable}
 use Rattle.core_lowering_rules.specs.Scopes.{with_resource, with_resources, unlocked_in}
 use Rattle.core_lowering_rules.specs.Scopes.{caught_behind}
@@ -41,7 +41,7 @@ use Rattle.core_lowering_rules.proofs.PlacedTrees.{PlacedExpr, PlacedExprs, Plac
 use Rattle.core_lowering_rules.proofs.PlacedTrees.{PlacedStart, PlacedCondition, PlacedResources, PlacedStmt}
 use Rattle.core_lowering_rules.proofs.PlacedTrees.{PlacedStmts}
 use Rattle.core_lowering_rules.proofs.PlacedTrees.{PlacedGroups}
-use Rattle.core_lowering_rules.proofs.ScopeSteps.{ScopeFact, of_type}
+use Rattle.core_lowering_rules.proofs.ScopeSteps.{ScopeFact}
 use Rattle.core_lowering_rules.proofs.ScopeSteps.{goes-started}
 use Rattle.core_lowering_rules.proofs.ScopeSteps.{goes-switch, goes-labelled, goes-label}
 use Rattle.core_lowering_rules.proofs.ScopeSteps.{goes-resource, goes-resources, goes-unlocked, goes-clauses}
@@ -131,14 +131,17 @@ module _ (f : Fact) (statuses : List (Option Reason)) where
       (joined f (init-holds f statuses c g i h) (conv f statuses c g k k (init_kind (other c) i) (init_kind c i)))
 
   begun_all-stand : (x c : Context) → Pair x c → (t : Ty) (vs : List Variable) →
-      PlacedVariables f.tests.is_place vs → f.Stands (begun_all x (type_kind x t) vs) (begun_all c (type_kind c t) vs)
+      PlacedVariables f.tests.is_place vs → f.Stands (begun_all x t vs) (begun_all c t vs)
   begun_all-stand x c b t [] h = f.none
   begun_all-stand x c b t (v ∷ vs) h =
-      let inside = declares f statuses x c t v.name b in
+      let n = v.arrays in
+      let inside = declares f statuses x c t n v.name b in
       follows f
-      (moved x c b (λ y. begun (of_type y t v.name) (next_variable y) (type_kind y t) v.initialiser)
-      (λ g. begun-stands (of_type c t v.name) inside.grounded (next_variable c) (type_kind c t) v.initialiser h.0))
-      (begun_all-stand (of_type x t v.name) (of_type c t v.name) inside t vs h.1)
+      (moved x c b
+      (λ y. begun (of_type y t n v.name) (next_variable y) (variable_kind_in y t n).kind v.initialiser)
+      (λ g. begun-stands (of_type c t n v.name) inside.grounded (next_variable c) (variable_kind_in c t n).kind
+      v.initialiser h.0))
+      (begun_all-stand (of_type x t n v.name) (of_type c t n v.name) inside t vs h.1)
 
   start-stands : (x c : Context) → Pair x c → (i : Start) → PlacedStart f.tests.is_place i →
       f.Stands (start x i) (start c i)
@@ -315,9 +318,9 @@ module _ (f : Fact) (statuses : List (Option Reason)) where
         (again_and_again f (follows_3 f (round-stands y d p body) (run_all-stand z n q updates h.2)
         (tested-stands z n q e h.1)))))
     stmt-stands x c b (ForEach t name e s) h =
-        let y = of_type x t name in
-        let d = of_type c t name in
-        let p = declares f statuses x c t name b in
+        let y = of_type x t 0 name in
+        let d = of_type c t 0 name in
+        let p = declares f statuses x c t 0 name b in
         let inner = loop-beside f statuses y d p in
         let z = after (in_loop y) s in
         let n = after (in_loop d) s in

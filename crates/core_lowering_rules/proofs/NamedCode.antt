@@ -103,7 +103,7 @@ likeness =
           };
       locked = λ k p a c there h. record { same = inside a c h };
       single = λ p o h k. record { same = refl };
-      called = λ p m n a b h k. record { same = call-named p m n a ∙ sym (call-named p m n b) };
+      called = λ p m j n a b h k. record { same = call-named p m j a ∙ sym (call-named p m n b) };
       missing = λ p o h k quiet. record { same = sym (ap (λ (ms : List MethodId). (ms ++ []) ++ []) quiet) };
       added = λ p o h k quiet. record { same = ap (λ (ms : List MethodId). (ms ++ []) ++ []) quiet };
     }
@@ -125,8 +125,8 @@ grounded context =
           record {
             fields = λ f info e. refl;
             methods = λ m info e. refl;
-            named = λ name c e. refl;
-            types = λ t. refl;
+            named = λ hidden name c e. refl;
+            types = λ hidden t. refl;
           };
       here = refl;
       class = refl;

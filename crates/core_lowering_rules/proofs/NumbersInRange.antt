@@ -29,10 +29,11 @@ use Rattle.java_resolver.specs.declared.infos.FieldInfo.{FieldInfo}
 use Rattle.java_resolver.specs.declared.infos.MethodInfo.{MethodInfo}
 use Rattle.java_resolver.specs.Declarations.{trees_of, class_info, classes_of, names_of, fields_of}
 use Rattle.java_resolver.specs.Declarations.{methods_of, field_info, member_fields, class_fields, result_kind}
-use Rattle.java_resolver.specs.Declarations.{kinds_of, head_kind, default_constructor}
+use Rattle.java_resolver.specs.Declarations.{kinds_of, further_arrays, head_kind, default_constructor}
+use Rattle.java_resolver.specs.Hidden.{hidden_in, is_hidden}
 use Rattle.java_resolver.specs.Declarations.{member_is_constructor}
 use Rattle.java_resolver.specs.Firsts.{first_that}
-use Rattle.java_resolver.specs.TypeKinds.{class_named, declared_kind, base_kind, kind_of}
+use Rattle.java_resolver.specs.TypeKinds.{class_named, class_seen, declared_kind, base_kind, kind_of, kind_with}
 use Rattle.core_code.specs.declared.code.Reason.{Reason}
 use Rattle.core_code.specs.Core.{Core}
 use Rattle.core_code.specs.Facts.{is_place, is_class, is_kind, is_method, is_code, is_class_in_range}
@@ -99,42 +100,61 @@ module _ (files : List (List ℕ)) (units : List unit_type.Unit) (is_recursive :
       length-map (classes_of units) class_core ∙ sym (length-map (classes_of units) (λ c. c.name)) in
       ap (λ n. nat_lt c.0 n) many ∙ below
 
-  declared-there : (name : List ℕ) (o : Option ClassId) → class_named (names_of units) name ≡ o →
-      is_kind core (declared_kind o) ≡ true
-  declared-there name None e = refl
-  declared-there name (Some c) e = named-there name c e
+  seen-by : (name : List ℕ) (c : ClassId) (b : Bool) → cond b None (class_named (names_of units) name) ≡ Some c →
+      is_class core c ≡ true
+  seen-by name c true e = absurd (none-some _ e)
+  seen-by name c false e = named-there name c e
 
-  base-there : (b : Base) → is_kind core (base_kind (names_of units) b) ≡ true
-  base-there (Plain text) = refl
-  base-there (Named no_part) = refl
-  base-there (Named (part_then (Bare name) no_part)) = declared-there name (class_named (names_of units) name) refl
-  base-there (Named (part_then (Bare name) (part_then p ps))) = refl
-  base-there (Named (part_then (Generic name a) ps)) = refl
+  seen-there : (hidden : List (List ℕ)) (name : List ℕ) (c : ClassId) →
+      class_seen hidden (names_of units) name ≡ Some c → is_class core c ≡ true
+  seen-there hidden name c e = seen-by name c (is_hidden hidden name) e
+
+  declared-there : (hidden : List (List ℕ)) (name : List ℕ) (o : Option ClassId) →
+      class_seen hidden (names_of units) name ≡ o → is_kind core (declared_kind o) ≡ true
+  declared-there hidden name None e = refl
+  declared-there hidden name (Some c) e = seen-there hidden name c e
+
+  base-there : (hidden : List (List ℕ)) (b : Base) → is_kind core (base_kind hidden (names_of units) b) ≡ true
+  base-there hidden (Plain text) = refl
+  base-there hidden (Named no_part) = refl
+  base-there hidden (Named (part_then (Bare name) no_part)) =
+      declared-there hidden name (class_seen hidden (names_of units) name) refl
+  base-there hidden (Named (part_then (Bare name) (part_then p ps))) = refl
+  base-there hidden (Named (part_then (Generic name a) ps)) = refl
 
   kind-by : (b : Bool) (k : Kind) → is_kind core k ≡ true → is_kind core (cond b k types.Other) ≡ true
   kind-by true k h = h
   kind-by false k h = refl
 
-  kind-there : (t : Ty) → is_kind core (kind_of (names_of units) t) ≡ true
-  kind-there (Typed base arrays) = kind-by (arrays == 0) (base_kind (names_of units) base) (base-there base)
+  kind-there : (hidden : List (List ℕ)) (t : Ty) → is_kind core (kind_of hidden (names_of units) t) ≡ true
+  kind-there hidden (Typed base arrays) =
+      kind-by (arrays == 0) (base_kind hidden (names_of units) base) (base-there hidden base)
+
+  with-there : (hidden : List (List ℕ)) (t : Ty) (further : ℕ) →
+      is_kind core (kind_with (kind_of hidden (names_of units) t) further) ≡ true
+  with-there hidden t further =
+      kind-by (further == 0) (kind_of hidden (names_of units) t) (kind-there hidden t)
 
   abbrev IsKind : Kind → Type 0
   IsKind k = is_kind core k ≡ true
 
-  result-there : (c : ClassId) → is_class core c ≡ true → (r : ResultTree) → IsKind (result_kind (names_of units) c r)
-  result-there c h result.Constructor = h
-  result-there c h result.Void = refl
-  result-there c h (result.Of t) = kind-there (ty_of t)
+  result-there : (hidden : List (List ℕ)) (c : ClassId) → is_class core c ≡ true → (r : ResultTree) (arrays : ℕ) →
+      IsKind (result_kind hidden (names_of units) c r arrays)
+  result-there hidden c h result.Constructor arrays = h
+  result-there hidden c h result.Void arrays = refl
+  result-there hidden c h (result.Of t) arrays = with-there hidden (ty_of t) arrays
 
   head-there : (c : ClassId) → is_class core c ≡ true → (r : HeadResult) → IsKind (head_kind (names_of units) c r)
   head-there c h head.Void = refl
-  head-there c h (head.Formed t) = kind-there (ty_of t)
+  head-there c h (head.Formed t) = kind-there [] (ty_of t)
   head-there c h head.Constructor = h
   head-there c h head.Unknown = refl
 
-  parameters-there : (ps : List ParameterTree) → Each IsKind (kinds_of (names_of units) ps)
-  parameters-there [] = tt
-  parameters-there (p ∷ ps) = (kind-there (ty_of p.kind), parameters-there ps)
+  parameters-there : (hidden : List (List ℕ)) (ps : List ParameterTree) →
+      Each IsKind (kinds_of hidden (names_of units) ps)
+  parameters-there hidden [] = tt
+  parameters-there hidden (p ∷ ps) =
+      (with-there hidden (ty_of p.kind) (further_arrays p), parameters-there hidden ps)
 
   others-there : (n : ℕ) → Each IsKind (replicate n types.Other)
   others-there zero = tt
@@ -154,7 +174,7 @@ module _ (files : List (List ℕ)) (units : List unit_type.Unit) (is_recursive :
   variables-there : (c : ClassId) → is_class core c ≡ true → (f : FieldTree) (vs : List FieldVariable) →
       Each IsFieldThere (map (field_info (names_of units) c f) vs)
   variables-there c h f [] = tt
-  variables-there c h f (v ∷ vs) = ((h, kind-there (ty_of f.kind)), variables-there c h f vs)
+  variables-there c h f (v ∷ vs) = ((h, kind-there [] (ty_of f.kind)), variables-there c h f vs)
 
   member_fields-there : (c : ClassId) → is_class core c ≡ true → (x : Member) →
       Each IsFieldThere (member_fields (names_of units) c x)
@@ -186,8 +206,8 @@ module _ (files : List (List ℕ)) (units : List unit_type.Unit) (is_recursive :
         record {
           class = h;
           place = places.0;
-          parameters = parameters-there t.parameters;
-          result = result-there c h t.result;
+          parameters = parameters-there (hidden_in t) t.parameters;
+          result = result-there (hidden_in t) c h t.result t.arrays;
         },
         tt,
       )
@@ -255,7 +275,7 @@ module _ (files : List (List ℕ)) (units : List unit_type.Unit) (is_recursive :
             record {
               fields = λ f info e. let h = each-at IsFieldThere (fields_of units) f.0 info fields-there e in h.0;
               methods = method-there;
-              named = named-there;
+              named = seen-there;
               types = kind-there;
             };
         here = right.place;

@@ -4,8 +4,9 @@ use Rattle.std.proofs.Common.{refl, subst}
 use Rattle.std.specs.Prelude.{bytes_eq}
 use Rattle.java_tree.specs.declared.words.Ident.{Ident}
 use Rattle.racer_base.specs.declared.ids.Place.{Place}
-use Rattle.core_lowering_rules.specs.Trees.{Expr, Text, This, ClassOf, Read, Unary, Cast, Binary, Logical, Conditional}
-use Rattle.core_lowering_rules.specs.Trees.{Assign, Combine, Count, Call, CallOn, New, NewArray, NewItems, Paren}
+use Rattle.core_lowering_rules.specs.Trees.{Expr, Unknown, This, ClassOf, Read, Unary, Cast, Binary, Logical, Conditional}
+use Rattle.core_lowering_rules.specs.Trees.{Assign, Combine, Count, Call, CallOn, New, NewBody, NewArray, NewItems, Paren}
+use Rattle.core_lowering_rules.specs.Trees.{ThisOf, Refer, ToExpr, ToType}
 use Rattle.core_lowering_rules.specs.Trees.{Access, Named, Selected, Element, NoAccess, Exprs, no_expr, expr_then, Init}
 use Rattle.core_lowering_rules.specs.Trees.{Value, Items, Inits, no_init, init_then, Variable, Start, Declares, Runs}
 use Rattle.core_lowering_rules.specs.Trees.{Condition, Resource, Stmt, Run, Local, If, IfElse, While, Do, For, ForEach}
@@ -30,10 +31,13 @@ Passes test place = test place ≡ true
 abbrev mutual
   pub PlacedExpr : (Place → Bool) → Expr → Type 0
   PlacedExpr test tree.Prim = Unit {0}
-  PlacedExpr test Text = Unit {0}
+  PlacedExpr test Unknown = Unit {0}
   PlacedExpr test tree.Null = Unit {0}
   PlacedExpr test This = Unit {0}
   PlacedExpr test (ClassOf xs) = Unit {0}
+  PlacedExpr test (ThisOf xs) = Unit {0}
+  PlacedExpr test (Refer (ToExpr e)) = PlacedExpr test e
+  PlacedExpr test (Refer ToType) = Unit {0}
   PlacedExpr test (Read a) = PlacedAccess test a
   PlacedExpr test (Unary e) = PlacedExpr test e
   PlacedExpr test (Cast t e) = PlacedExpr test e
@@ -46,6 +50,7 @@ abbrev mutual
   PlacedExpr test (Call x es) = Passes test x.place × PlacedExprs test es
   PlacedExpr test (CallOn e x es) = PlacedExpr test e × Passes test x.place × PlacedExprs test es
   PlacedExpr test (New place t es) = Passes test place × PlacedExprs test es
+  PlacedExpr test (NewBody place t es) = Passes test place × PlacedExprs test es
   PlacedExpr test (NewArray place lengths) = Passes test place × PlacedExprs test lengths
   PlacedExpr test (NewItems place items) = Passes test place × PlacedInits test items
   PlacedExpr test (Paren e) = PlacedExpr test e
@@ -139,10 +144,12 @@ module _ (test : Place → Bool) where
       let one : (e, x) ≡ call = some-same same in
       subst PlacedCall one (p.0, p.1)
   call-placed tree.Prim call p is = absurd cc
-  call-placed Text call p is = absurd cc
+  call-placed Unknown call p is = absurd cc
   call-placed tree.Null call p is = absurd cc
   call-placed This call p is = absurd cc
   call-placed (ClassOf xs) call p is = absurd cc
+  call-placed (ThisOf xs) call p is = absurd cc
+  call-placed (Refer to) call p is = absurd cc
   call-placed (Read a) call p is = absurd cc
   call-placed (Unary e) call p is = absurd cc
   call-placed (Cast t e) call p is = absurd cc
@@ -154,6 +161,7 @@ module _ (test : Place → Bool) where
   call-placed (Count a) call p is = absurd cc
   call-placed (Call x es) call p is = absurd cc
   call-placed (New place t es) call p is = absurd cc
+  call-placed (NewBody place t es) call p is = absurd cc
   call-placed (NewArray place lengths) call p is = absurd cc
   call-placed (NewItems place items) call p is = absurd cc
   call-placed (Paren e) call p is = absurd cc

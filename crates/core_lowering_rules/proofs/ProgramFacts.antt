@@ -11,7 +11,7 @@ use Rattle.java_tree.specs.declared.unit.Unit as unit_type
 use Rattle.java_tree.specs.declared.unit.Member.{Member}
 use Rattle.java_resolver.specs.declared.infos.ClassInfo.{ClassInfo}
 use Rattle.java_resolver.specs.declared.infos.MethodInfo.{MethodInfo}
-use Rattle.java_resolver.specs.Declarations.{names_of}
+use Rattle.java_resolver.specs.Declarations.{names_of, further_arrays}
 use Rattle.core_code.specs.declared.code.Reason.{Reason}
 use Rattle.core_code.specs.declared.code.Reason.TheVariants.{Overload, Outside, Parameters, Locals, Operations}
 use Rattle.core_code.specs.declared.code.Reason.TheVariants.{Recursive}
@@ -23,8 +23,8 @@ use Rattle.core_code.specs.CallFacts.{has_right_calls, are_calls_right, ends_by_
 use Rattle.java_tree.specs.declared.methods.MethodTree.{MethodTree}
 use Rattle.java_tree.specs.declared.methods.ParameterTree.{ParameterTree}
 use Rattle.java_tree.specs.View.{ty_of}
-use Rattle.core_lowering_rules.specs.Context.{Context, Folder, made, type_kind}
-use Rattle.core_lowering_rules.specs.Scopes.{declared}
+use Rattle.core_lowering_rules.specs.Context.{Context, Folder, made}
+use Rattle.core_lowering_rules.specs.Scopes.{of_type}
 use Rattle.core_lowering_drafts.specs.Sites.{numbered}
 use Rattle.core_lowering_rules.specs.Methods.{Body, Default, Spelled, Unspelled, Source, entered, fields_begun}
 use Rattle.core_lowering_rules.specs.Methods.{parameters_declared, is_large, is_past, is_past_limit, ended}
@@ -70,7 +70,7 @@ parameters-blind : (statuses : List (Option Reason)) (c : Context) (ps : List Pa
     parameters_declared (with_statuses statuses c) ps ≡ with_statuses statuses (parameters_declared c ps)
 parameters-blind statuses c [] = refl
 parameters-blind statuses c (p ∷ ps) =
-    parameters-blind statuses (declared c (type_kind c (ty_of p.kind)) p.name) ps
+    parameters-blind statuses (of_type c (ty_of p.kind) (further_arrays p) p.name) ps
 
 -- ---- parameters
 

@@ -1,13 +1,14 @@
 -- Members that are the same declare the same.
 use Rattle.std.proofs.Common.{◌≡◌, ℕ, Bool, true, false, not, ◌&&◌, ◌||◌, cond, List, [], ◌∷◌, ◌++◌, codes, map}
 use Rattle.std.proofs.Common.{replicate}
-use Rattle.std.proofs.Common.{refl, ap, ap₂, sym, ◌∙◌}
+use Rattle.std.proofs.Common.{suc, Option, Some, None, refl, ap, ap₂, sym, ◌∙◌}
+use Rattle.std.specs.Prelude.{option_map, if◌then◌else◌}
 use Rattle.std.specs.List.{list_any}
 use Rattle.racer_base.specs.declared.ids.ClassId.{ClassId}
 use Rattle.racer_base.specs.declared.ids.Kind.{Kind}
 use Rattle.racer_base.specs.declared.ids.Kind.TheVariants as kind
 use Rattle.racer_base.specs.declared.ids.Place.{Place}
-use Rattle.racer_base.proofs.Lists.{same_3}
+use Rattle.racer_base.proofs.Lists.{same_3, same_4}
 use Rattle.java_tree.specs.declared.words.Ident.{Ident}
 use Rattle.java_tree.specs.declared.methods.AnnotationTree.{AnnotationTree}
 use Rattle.java_tree.specs.declared.methods.FieldTree.{FieldTree}
@@ -20,7 +21,10 @@ use Rattle.java_tree.specs.declared.methods.ResultTree.{ResultTree}
 use Rattle.java_tree.specs.declared.methods.ResultTree.TheVariants as result
 use Rattle.java_tree.specs.Trees.{Ty}
 use Rattle.java_tree.specs.Trees as view
-use Rattle.java_tree.specs.View.{ty_of, modifier_of, result_of, method_of}
+use Rattle.java_tree.specs.declared.methods.TypeParameterTree.{TypeParameterTree}
+use Rattle.java_tree.specs.declared.methods.TypeParametersTree.{TypeParametersTree}
+use Rattle.java_tree.specs.View.{ty_of, modifier_of, result_of, method_of, parameter_of, type_parameter_of}
+use Rattle.java_tree.specs.View.{type_parameters_of}
 use Rattle.java_tree.specs.declared.unit.ClassTree.{ClassTree}
 use Rattle.java_tree.specs.declared.unit.HeadResult.{HeadResult}
 use Rattle.java_tree.specs.declared.unit.HeadResult.TheVariants as head
@@ -32,15 +36,17 @@ use Rattle.java_tree.specs.SameUnits.{SameMember, SameClass}
 use Rattle.java_resolver.specs.declared.infos.ClassInfo.{ClassInfo}
 use Rattle.java_resolver.specs.declared.infos.FieldInfo.{FieldInfo}
 use Rattle.java_resolver.specs.declared.infos.MethodInfo.{MethodInfo}
-use Rattle.java_resolver.specs.TypeKinds.{kind_of}
+use Rattle.java_resolver.specs.Hidden.{hidden_in, parameter_name, parameter_names, classes_in_all}
+use Rattle.java_resolver.specs.TypeKinds.{kind_of, kind_with}
 use Rattle.java_resolver_parts.specs.LockTypes.{is_other, is_lock_type}
 use Rattle.java_resolver.specs.Words.{has_word, is_annotated}
 use Rattle.java_resolver.specs.Declarations.{has_synchronized, has_annotation, is_checked, class_info, field_info}
 use Rattle.java_resolver.specs.Declarations.{member_fields, class_fields, constructor_name, result_kind, is_constructor}
-use Rattle.java_resolver.specs.Declarations.{kinds_of, method_info, head_kind, is_constructor_head, head_info}
+use Rattle.java_resolver.specs.Declarations.{kinds_of, takes_any_number, method_info, head_kind}
+use Rattle.java_resolver.specs.Declarations.{is_constructor_head, head_info}
 use Rattle.java_resolver.specs.Declarations.{default_constructor, member_methods}
 use Rattle.java_resolver.specs.Declarations.{member_is_constructor, class_methods}
-use Rattle.core_lowering_rules.proofs.FilledMethods.{SeenParameter, Seen, seen_parameter, seen, same_seen}
+use Rattle.core_lowering_rules.proofs.FilledMethods.{Seen, seen, same_seen}
 use Rattle.core_lowering_rules.proofs.ZippedLists.{same_5, zip-equal, zip-map, zip-flat, zip-any}
 use Rattle.core_lowering_rules.proofs.ZippedLists.{map-injective}
 
@@ -116,11 +122,11 @@ module _ (names : List (List ℕ)) (c : ClassId) where
         class = c;
         name = x;
         place = p;
-        kind = kind_of names t;
+        kind = kind_of [] names t;
         is_static = has_word (codes "static") ms;
         is_final = has_word (codes "final") ms;
         is_volatile = has_word (codes "volatile") ms;
-        is_lock = has_word (codes "final") ms && is_other (kind_of names t) && is_lock_type t;
+        is_lock = has_word (codes "final") ms && is_other (kind_of [] names t) && is_lock_type t;
       }
 
   variables-alike : (f g : FieldTree) → SameField f g
@@ -189,40 +195,72 @@ pub constructs-alike : (a b : ClassTree) → SameClass a b
 constructs-alike a b h =
     zip-any SameMember member_is_constructor member_constructor-alike a.members b.members h.members
 
+-- ---- what is read of a method from its tree without places
+
+abbrev names_listed : List view.TypeParameter → List (List ℕ)
+names_listed ps = map (λ (p : view.TypeParameter). p.name) ps
+
+abbrev names_seen : Option view.TypeParameters → List (List ℕ)
+names_seen None = []
+names_seen (Some ps) = names_listed ps.items
+
+abbrev hidden_seen : view.Method → List (List ℕ)
+hidden_seen v = names_seen v.type_parameters ++ classes_in_all v.body
+
+listed-are : (ps : List TypeParameterTree) → map parameter_name ps ≡ names_listed (map type_parameter_of ps)
+listed-are [] = refl
+listed-are (p ∷ ps) = ap (λ l. p.name.text ∷ l) (listed-are ps)
+
+names-are : (o : Option TypeParametersTree) → parameter_names o ≡ names_seen (option_map type_parameters_of o)
+names-are None = refl
+names-are (Some ps) = listed-are ps.items
+
+hidden-is : (m : MethodTree) → hidden_in m ≡ hidden_seen (method_of m)
+hidden-is m = ap (λ names. names ++ classes_in_all (method_of m).body) (names-are m.type_parameters)
+
+abbrev further_seen : view.Parameter → ℕ
+further_seen p = if p.any_number then suc p.arrays else p.arrays
+
+abbrev takes_seen : List view.Parameter → Bool
+takes_seen [] = false
+takes_seen (p ∷ []) = p.any_number
+takes_seen (p ∷ q ∷ ps) = takes_seen (q ∷ ps)
+
+takes-is : (ps : List ParameterTree) → takes_any_number ps ≡ takes_seen (map parameter_of ps)
+takes-is [] = refl
+takes-is (p ∷ []) = refl
+takes-is (p ∷ q ∷ ps) = takes-is (q ∷ ps)
+
 module _ (names : List (List ℕ)) (c : ClassId) where
-  abbrev kind_by : view.Result → Kind
-  kind_by view.NoResult = kind.Declared c
-  kind_by view.VoidResult = kind.Plain
-  kind_by (view.TypeResult t) = kind_of names t
+  abbrev kind_by : List (List ℕ) → view.Result → ℕ → Kind
+  kind_by hidden view.NoResult arrays = kind.Declared c
+  kind_by hidden view.VoidResult arrays = kind.Plain
+  kind_by hidden (view.TypeResult t) arrays = kind_with (kind_of hidden names t) arrays
 
-  result-is : (r : ResultTree) → result_kind names c r ≡ kind_by (result_of r)
-  result-is result.Constructor = refl
-  result-is result.Void = refl
-  result-is (result.Of t) = refl
+  result-is : (hidden : List (List ℕ)) (r : ResultTree) (arrays : ℕ)
+      → result_kind hidden names c r arrays ≡ kind_by hidden (result_of r) arrays
+  result-is hidden result.Constructor arrays = refl
+  result-is hidden result.Void arrays = refl
+  result-is hidden (result.Of t) arrays = refl
 
-  result-alike : (m n : MethodTree) → method_of m ≡ method_of n
-      → result_kind names c m.result ≡ result_kind names c n.result
-  result-alike m n e =
-      result-is m.result ∙ ap (λ (v : view.Method). kind_by v.result) e ∙ sym (result-is n.result)
+  abbrev kind_seen : List (List ℕ) → view.Parameter → Kind
+  kind_seen hidden p = kind_with (kind_of hidden names p.kind) (further_seen p)
 
-  kinds-are : (ps : List ParameterTree)
-      → kinds_of names ps ≡ map (λ (p : SeenParameter). kind_of names p.kind) (map seen_parameter ps)
-  kinds-are [] = refl
-  kinds-are (p ∷ ps) = ap (λ l. kind_of names (ty_of p.kind) ∷ l) (kinds-are ps)
+  kinds-are : (hidden : List (List ℕ)) (ps : List ParameterTree)
+      → kinds_of hidden names ps ≡ map (kind_seen hidden) (map parameter_of ps)
+  kinds-are hidden [] = refl
+  kinds-are hidden (p ∷ ps) = ap (λ l. kind_seen hidden (parameter_of p) ∷ l) (kinds-are hidden ps)
 
-  kinds-alike : (m n : MethodTree) → seen m ≡ seen n → kinds_of names m.parameters ≡ kinds_of names n.parameters
-  kinds-alike m n e =
-      kinds-are m.parameters ∙ ap (λ (s : Seen). map (λ (p : SeenParameter). kind_of names p.kind) s.parameters) e
-      ∙ sym (kinds-are n.parameters)
-
-  abbrev method_by : List modifiers.ModifierTree → Bool → Kind → List Kind → Ident → MethodInfo
-  method_by ms constructs r ps x =
+  abbrev info_with : List modifiers.ModifierTree → Bool → Ident → List (List ℕ) → List Kind → Bool → Kind → MethodInfo
+  info_with ms constructs x hidden ps any r =
       record {
         class = c;
         name = cond constructs constructor_name x.text;
         place = x.place;
         parameters = ps;
+        any_number = any;
         result = r;
+        hidden = hidden;
         is_static = has_word (codes "static") ms && not constructs;
         is_private = has_word (codes "private") ms;
         is_constructor = constructs;
@@ -230,11 +268,28 @@ module _ (names : List (List ℕ)) (c : ClassId) where
         not_thread_safe = is_annotated (codes "NotThreadSafe") ms;
       }
 
+  abbrev method_by : List modifiers.ModifierTree → Bool → view.Method → Ident → MethodInfo
+  method_by ms constructs v x =
+      let hidden = hidden_seen v in
+      info_with ms constructs x hidden (map (kind_seen hidden) v.parameters) (takes_seen v.parameters)
+      (kind_by hidden v.result v.arrays)
+
+  method-is : (m : MethodTree)
+      → method_info names c m ≡ method_by m.modifiers (is_constructor m.result) (method_of m) m.name
+  method-is m =
+      let v = method_of m in
+      let hidden = hidden-is m in
+      same_4 (info_with m.modifiers (is_constructor m.result) m.name) hidden
+      (kinds-are (hidden_in m) m.parameters ∙ ap (λ xs. map (kind_seen xs) v.parameters) hidden)
+      (takes-is m.parameters)
+      (result-is (hidden_in m) m.result m.arrays ∙ ap (λ xs. kind_by xs v.result v.arrays) hidden)
+
   pub method-alike : (m n : MethodTree) → SameMethod m n → method_info names c m ≡ method_info names c n
   method-alike m n h =
-      let same = same_seen m n h.0 h.1 in
-      same_5 method_by (modifiers-alike m n h.0) (constructor-alike m n h.0) (result-alike m n h.0)
-      (kinds-alike m n same) (ap (λ (s : Seen). s.name) same)
+      method-is m
+      ∙ same_4 method_by (modifiers-alike m n h.0) (constructor-alike m n h.0) h.0
+      (ap (λ (s : Seen). s.name) (same_seen m n h.0 h.1))
+      ∙ sym (method-is n)
 
   -- ---- methods without a tree
 
@@ -245,7 +300,9 @@ module _ (names : List (List ℕ)) (c : ClassId) where
         name = x;
         place = p;
         parameters = replicate n kind.Other;
+        any_number = false;
         result = k;
+        hidden = [];
         is_static = fixed && not constructs;
         is_private = false;
         is_constructor = constructs;
@@ -262,7 +319,7 @@ module _ (names : List (List ℕ)) (c : ClassId) where
   head_result-alike head.Void head.Constructor h = absurd h
   head_result-alike head.Void head.Unknown h = absurd h
   head_result-alike (head.Formed t) head.Void h = absurd h
-  head_result-alike (head.Formed t) (head.Formed u) h = ap (λ v. head_by (kind_of names v) false) h.0
+  head_result-alike (head.Formed t) (head.Formed u) h = ap (λ v. head_by (kind_of [] names v) false) h.0
   head_result-alike (head.Formed t) head.Constructor h = absurd h
   head_result-alike (head.Formed t) head.Unknown h = absurd h
   head_result-alike head.Constructor head.Void h = absurd h

@@ -22,17 +22,17 @@ use Rattle.java_tree.specs.declared.unit.Member.{Member}
 use Rattle.java_tree.specs.declared.unit.Member.TheVariants as member
 use Rattle.java_tree.specs.SameUnits.{SameInitialiser, SameVariable, SameField, SameMethod, SameMember, SameClass}
 use Rattle.java_resolver.specs.declared.infos.MethodInfo.{MethodInfo}
-use Rattle.java_resolver.specs.Declarations.{default_constructor}
+use Rattle.java_resolver.specs.Declarations.{default_constructor, further_arrays}
 use Rattle.java_resolver.specs.Declarations.{member_is_constructor}
 use Rattle.java_resolver.specs.Words.{has_word}
 use Rattle.core_lowering_rules.specs.Trees as lowered
-use Rattle.core_lowering_rules.specs.Context.{Folder, Context, Result, Itself, Nothing, Value, Code, op, type_kind}
+use Rattle.core_lowering_rules.specs.Context.{Folder, Context, Result, Itself, Nothing, Value, Code, op}
 use Rattle.core_lowering_rules.specs.Context.{made}
 use Rattle.core_lowering_rules.specs.Assignments.{of_name, assigned}
 use Rattle.core_lowering_rules.specs.Expressions.{init_kind, init_code}
-use Rattle.core_lowering_rules.specs.Scopes.{declared, after_all}
+use Rattle.core_lowering_rules.specs.Scopes.{of_type, after_all}
 use Rattle.core_lowering_rules.specs.Methods.{Body, Default, Spelled, Unspelled, Source, this_kinds, entered}
-use Rattle.core_lowering_rules.specs.Methods.{parameters_declared, field_begun, member_begun, fields_begun, body_of}
+use Rattle.core_lowering_rules.specs.Methods.{outside_methods, parameters_declared, field_begun, member_begun, fields_begun, body_of}
 use Rattle.core_lowering_rules.specs.Methods.{block_code, none_analysed, is_large, is_past, is_past_limit, end_of}
 use Rattle.core_lowering_rules.specs.Methods.{is_apart}
 use Rattle.core_lowering_rules.specs.Methods.{locked, ended, spelled_code, code_in, method_code, kinds_in}
@@ -129,19 +129,19 @@ module _ (context : Context) where
 fields-alike : (context : Context) (xs ys : List Member) → AllZip SameMember xs ys
     → fields_begun context xs ≡ fields_begun context ys
 fields-alike context xs ys h =
-    let inside = record context { scope = record context.scope { variables = [] } } in
+    let inside = outside_methods context in
     zip-flat SameMember (member_begun inside) (member_begun inside) (member-alike inside) xs ys h
 
 -- ---- methods
 
 abbrev declared_all : Context → List SeenParameter → Context
 declared_all context [] = context
-declared_all context (p ∷ ps) = declared_all (declared context (type_kind context p.kind) p.name) ps
+declared_all context (p ∷ ps) = declared_all (of_type context p.kind p.further p.name) ps
 
 declared-all : (context : Context) (ps : List ParameterTree)
     → parameters_declared context ps ≡ declared_all context (map seen_parameter ps)
 declared-all context [] = refl
-declared-all context (p ∷ ps) = declared-all (declared context (type_kind context (ty_of p.kind)) p.name) ps
+declared-all context (p ∷ ps) = declared-all (of_type context (ty_of p.kind) (further_arrays p) p.name) ps
 
 parameters-alike : (context : Context) (m n : MethodTree) → seen m ≡ seen n
     → parameters_declared context m.parameters ≡ parameters_declared context n.parameters
@@ -229,7 +229,7 @@ entered_by folder i r =
       place = i.place;
       result = r;
       given = i.result;
-      scope = record { class = i.class; is_static = i.is_static; variables = [] };
+      scope = record { class = i.class; is_static = i.is_static; hidden = i.hidden; variables = [] };
       kinds = this_kinds i;
       exits = 0;
       labels = [];

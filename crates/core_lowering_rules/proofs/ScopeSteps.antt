@@ -8,6 +8,7 @@ use Rattle.java_tree.specs.declared.words.Ident.{Ident}
 use Rattle.java_tree.specs.declared.methods.ParameterTree.{ParameterTree}
 use Rattle.java_tree.specs.Trees.{Ty}
 use Rattle.java_tree.specs.View.{ty_of}
+use Rattle.java_resolver.specs.Declarations.{further_arrays}
 use Rattle.core_code.specs.declared.code.Reason.{Reason}
 use Rattle.core_lowering_rules.specs.Trees.{Variable, Start, Declares, Runs, Stmt, Run, Local, If, IfElse, While, Do}
 use Rattle.core_lowering_rules.specs.Trees.{For}
@@ -15,22 +16,17 @@ use Rattle.core_lowering_rules.specs.Trees.{ForEach, Sync, Return, Block, Empty,
 use Rattle.core_lowering_rules.specs.Trees.{Assert}
 use Rattle.core_lowering_rules.specs.Trees.{Switch, Locked, Try, Finally, Resource, Stmts, no_stmt, stmt_then, Groups}
 use Rattle.core_lowering_rules.specs.Trees.{no_group, group_then, Catches, no_catch, catch_then, Expr}
-use Rattle.core_lowering_rules.specs.Locks.{lock_kept, lock_noted}
+use Rattle.core_lowering_rules.specs.Locks.{is_stored_in, lock_kept, lock_noted}
 use Rattle.core_lowering_rules.specs.Context.{Context, Guard, Target, type_kind}
-use Rattle.core_lowering_rules.specs.Scopes.{declared, all_declared, started, back_in, back_from, in_loop, in_switch}
+use Rattle.core_lowering_rules.specs.Scopes.{of_type, of_catch, all_declared, started, back_in, back_from, in_loop, in_switch}
 use Rattle.core_lowering_rules.specs.Scopes.{in_labelled, with_label, is_loop, break_to, continue_to, jumped, in_guard}
 use Rattle.core_lowering_rules.specs.Scopes.{out_of_guard, returned_variable, with_variable, after_return, after_last}
 use Rattle.core_lowering_rules.specs.Scopes.{is_closed_by}
 use Rattle.core_lowering_rules.specs.Scopes.{with_resource, with_resources, unlocked_in, after, after_all, after_groups}
 use Rattle.core_lowering_rules.specs.Scopes.{caught, caught_behind}
-use Rattle.racer_base.specs.declared.ids.Kind.TheVariants.{Other}
 use Rattle.racer_base.specs.declared.ids.Kind.TheVariants as kinds
 use Rattle.core_lowering_rules.specs.Methods.{parameters_declared}
 use Rattle.core_lowering_rules.proofs.StatusesUnseen.{with_statuses}
-
--- a variable of a type
-abbrev pub of_type : Context → Ty → Ident → Context
-of_type context t x = declared context (type_kind context t) x
 
 -- what of a context is neither variables nor returns
 pub record Sides : Type 0 where
@@ -74,8 +70,8 @@ pub record ScopeFact : Type 1 where
   pub Goes : (x c y d : Context) → Type 0
   pub stays : (x c : Context) → Goes x c x c
   pub further : (x c y d z e : Context) → Goes x c y d → Goes y d z e → Goes x c z e
-  pub declares : (x c : Context) (t : Ty) (name : Ident) → Goes x c (of_type x t name) (of_type c t name)
-  pub names : (x c : Context) (name : Ident) → Goes x c (declared x Other name) (declared c Other name)
+  pub declares : (x c : Context) (t : Ty) (n : ℕ) (name : Ident) → Goes x c (of_type x t n name) (of_type c t n name)
+  pub names : (x c : Context) (name : Ident) → Goes x c (of_catch x name) (of_catch c name)
   pub backs : (x c y d : Context) → Goes x c y d → Goes x c (back_in x y) (back_in c d)
   -- sides change: of the context, of the context behind by both, and of the context before by both
   pub notes : (x c : Context) (f : Context → Sides) → IsBlind f → Goes x c (with_sides x (f x)) (with_sides c (f c))
@@ -117,8 +113,8 @@ broken_sides x c = sides_of (jumped c (break_to c x))
 abbrev continued_sides : Option Ident → Context → Sides
 continued_sides x c = sides_of (jumped c (continue_to c x))
 
-abbrev noted_sides : Expr → Context → Sides
-noted_sides e c = sides_of (lock_noted c e)
+abbrev noted_sides : Expr → Bool → Context → Sides
+noted_sides e is_stored c = sides_of (lock_noted c e is_stored)
 
 abbrev unlocked_sides : Stmts → Context → Sides
 unlocked_sides ss c = sides_of (unlocked_in c ss)
@@ -150,22 +146,23 @@ closed-blind statuses c kinds.Other = refl
 
 module _ (f : ScopeFact) where
   pub goes-all : (x c : Context) (t : Ty) (vs : List Variable) →
-      f.Goes x c (all_declared x (type_kind x t) vs) (all_declared c (type_kind c t) vs)
+      f.Goes x c (all_declared x t vs) (all_declared c t vs)
   goes-all x c t [] = f.stays x c
   goes-all x c t (v ∷ vs) =
-      let y = of_type x t v.name in
-      let d = of_type c t v.name in
-      f.further x c y d (all_declared y (type_kind x t) vs) (all_declared d (type_kind c t) vs)
-      (f.declares x c t v.name) (goes-all y d t vs)
+      let y = of_type x t v.arrays v.name in
+      let d = of_type c t v.arrays v.name in
+      f.further x c y d (all_declared y t vs) (all_declared d t vs) (f.declares x c t v.arrays v.name)
+      (goes-all y d t vs)
 
   pub goes-parameters : (x c : Context) (ps : List ParameterTree) →
       f.Goes x c (parameters_declared x ps) (parameters_declared c ps)
   goes-parameters x c [] = f.stays x c
   goes-parameters x c (p ∷ ps) =
-      let y = of_type x (ty_of p.kind) p.name in
-      let d = of_type c (ty_of p.kind) p.name in
-      f.further x c y d (parameters_declared y ps) (parameters_declared d ps) (f.declares x c (ty_of p.kind) p.name)
-      (goes-parameters y d ps)
+      let further = further_arrays p in
+      let y = of_type x (ty_of p.kind) further p.name in
+      let d = of_type c (ty_of p.kind) further p.name in
+      f.further x c y d (parameters_declared y ps) (parameters_declared d ps)
+      (f.declares x c (ty_of p.kind) further p.name) (goes-parameters y d ps)
 
   pub goes-started : (x c : Context) (i : Start) → f.Goes x c (started x i) (started c i)
   goes-started x c (Declares t vs) = goes-all x c t vs
@@ -210,10 +207,10 @@ module _ (f : ScopeFact) where
 
   pub goes-resource : (x c : Context) (r : Resource) → f.Goes x c (with_resource x r) (with_resource c r)
   goes-resource x c r =
-      f.turns x c (of_type x r.kind r.name) (of_type c r.kind r.name) (resource_sides r.kind)
+      f.turns x c (of_type x r.kind 0 r.name) (of_type c r.kind 0 r.name) (resource_sides r.kind)
       (λ statuses d e. ap (λ (b : Bool). record (sides_of e) { is_apart = d.is_apart || b })
       (closed-blind statuses d (type_kind d r.kind)))
-      (f.declares x c r.kind r.name)
+      (f.declares x c r.kind 0 r.name)
 
   pub goes-resources : (x c : Context) (rs : List Resource) → f.Goes x c (with_resources x rs) (with_resources c rs)
   goes-resources x c [] = f.stays x c
@@ -225,8 +222,9 @@ module _ (f : ScopeFact) where
   goes-kept : (x c y d : Context) → f.Goes x c y d → f.Goes x c (lock_kept x y) (lock_kept c d)
   goes-kept x c y d p = f.keeps x c y d kept_sides (λ statuses c d. refl) p
 
-  goes-noted : (x c : Context) (e : Expr) → f.Goes x c (lock_noted x e) (lock_noted c e)
-  goes-noted x c e = f.notes x c (noted_sides e) (λ statuses d. refl)
+  goes-noted : (x c : Context) (e : Expr) (is_stored : Bool) →
+      f.Goes x c (lock_noted x e is_stored) (lock_noted c e is_stored)
+  goes-noted x c e is_stored = f.notes x c (noted_sides e is_stored) (λ statuses d. refl)
 
   pub goes-unlocked : (x c : Context) (ss : Stmts) → f.Goes x c (unlocked_in x ss) (unlocked_in c ss)
   goes-unlocked x c ss = f.notes x c (unlocked_sides ss) (λ statuses d. refl)
@@ -266,12 +264,12 @@ module _ (f : ScopeFact) where
         (goes-back y d z n (f.further y d (in_loop y) (in_loop d) z n (goes-loop y d)
         (goes-after (in_loop y) (in_loop d) s))))
     goes-after x c (ForEach t name e s) =
-        let y = of_type x t name in
-        let d = of_type c t name in
+        let y = of_type x t 0 name in
+        let d = of_type c t 0 name in
         let z = after (in_loop y) s in
         let n = after (in_loop d) s in
         f.backs x c (back_from y z) (back_from d n)
-        (f.further x c y d (back_from y z) (back_from d n) (f.declares x c t name)
+        (f.further x c y d (back_from y z) (back_from d n) (f.declares x c t 0 name)
         (goes-back y d z n (f.further y d (in_loop y) (in_loop d) z n (goes-loop y d)
         (goes-after (in_loop y) (in_loop d) s))))
     goes-after x c (Sync place e ss) = f.backs x c (after_all x ss) (after_all c ss) (goes-after_all x c ss)
@@ -300,11 +298,11 @@ module _ (f : ScopeFact) where
     goes-after x c (Locked place e ss catches) =
         let y = back_in x (after_all x ss) in
         let d = back_in c (after_all c ss) in
-        let z = lock_noted y e in
-        let n = lock_noted d e in
+        let z = lock_noted y e (is_stored_in e ss) in
+        let n = lock_noted d e (is_stored_in e ss) in
         f.further x c z n (lock_kept z (caught z catches)) (lock_kept n (caught n catches))
         (f.further x c y d z n (f.backs x c (after_all x ss) (after_all c ss) (goes-after_all x c ss))
-        (goes-noted y d e))
+        (goes-noted y d e (is_stored_in e ss)))
         (goes-kept z n (caught z catches) (caught n catches) (goes-caught z n catches))
     goes-after x c (Try rs ss catches) =
         let y = with_resources x rs in
@@ -353,8 +351,8 @@ module _ (f : ScopeFact) where
     pub goes-caught : (x c : Context) (catches : Catches) → f.Goes x c (caught x catches) (caught c catches)
     goes-caught x c no_catch = f.stays x c
     goes-caught x c (catch_then name ss catches) =
-        let y = declared x Other name in
-        let d = declared c Other name in
+        let y = of_catch x name in
+        let d = of_catch c name in
         let z = lock_kept x (after_all y ss) in
         let n = lock_kept c (after_all d ss) in
         f.further x c z n (caught z catches) (caught n catches)

@@ -8,15 +8,16 @@ use Rattle.java_resolver.specs.declared.scope.Meaning.{Meaning}
 use Rattle.java_resolver.specs.declared.scope.Meaning.TheVariants as means
 use Rattle.java_resolver.specs.Meanings.{field_named}
 use Rattle.core_code.specs.declared.code.Reason.{Reason}
-use Rattle.core_lowering_rules.specs.Trees.{Expr, Text, This, ClassOf, Read, Unary, Cast, Logical, Binary}
+use Rattle.core_lowering_rules.specs.Trees.{Expr, Unknown, This, ClassOf, Read, Unary, Cast, Logical, Binary}
 use Rattle.core_lowering_rules.specs.Trees as tree
-use Rattle.core_lowering_rules.specs.Trees.{Conditional, Assign, Combine, Count, Paren, CallOn, NewArray, NewItems}
+use Rattle.core_lowering_rules.specs.Trees.{Conditional, Assign, Combine, Count, Paren, CallOn, NewBody}
+use Rattle.core_lowering_rules.specs.Trees.{NewArray, NewItems, ThisOf, Refer}
 use Rattle.core_lowering_rules.specs.Trees.{Access, Named, Selected, Element, NoAccess, count_exprs}
 use Rattle.core_lowering_rules.specs.ValueKinds.{ValueKind, Of, Null, common_kind}
 use Rattle.core_lowering_rules.specs.Context.{Context, Code, meaning_of}
 use Rattle.core_lowering_rules.specs.Assignments.{kind_in, of_meaning, of_name, of_class, of_object, of_value, selected}
 use Rattle.core_lowering_rules.specs.Calls.{Callee, Missing, OfClass, OfObject, result_kind, callee_on, own_callee}
-use Rattle.core_lowering_rules.specs.Expressions.{class_before, kind, access_kind}
+use Rattle.core_lowering_rules.specs.Expressions.{class_before, is_evaluated, kind, access_kind}
 
 -- the same with other statuses
 abbrev pub with_statuses : List (Option Reason) → Context → Context
@@ -82,13 +83,19 @@ module _ (statuses : List (Option Reason)) (context : Context) where
   class_before-same (Read (Named x)) = refl
   class_before-same _ = refl
 
+  pub is_evaluated-same : (e : Expr) → is_evaluated other e ≡ is_evaluated context e
+  is_evaluated-same (Read (Named x)) = refl
+  is_evaluated-same _ = refl
+
   mutual
     pub kind-same : (e : Expr) → kind other e ≡ kind context e
     kind-same tree.Prim = refl
-    kind-same Text = refl
+    kind-same Unknown = refl
     kind-same tree.Null = refl
     kind-same This = refl
     kind-same (ClassOf xs) = refl
+    kind-same (ThisOf xs) = refl
+    kind-same (Refer to) = refl
     kind-same (Read a) = access_kind-same a
     kind-same (Unary e) = refl
     kind-same (Cast t e) = refl
@@ -108,6 +115,7 @@ module _ (statuses : List (Option Reason)) (context : Context) where
         (callee-same (class_before other e) (class_before context e) (kind other e) (kind context e) x (count_exprs es)
         (class_before-same e) (kind-same e))
     kind-same (tree.New place t es) = refl
+    kind-same (NewBody place t es) = refl
     kind-same (NewArray place lengths) = refl
     kind-same (NewItems place items) = refl
     kind-same (Paren e) = kind-same e

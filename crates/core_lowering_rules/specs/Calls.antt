@@ -1,6 +1,7 @@
 -- A contract of a public call rests on this: calls and object creations (JLS 15.9, 15.12), with the code of what stands
 -- before the name and of the arguments.
-use Rattle.std.specs.Prelude.{ℕ, suc, List, [], ◌++◌, Option, Some, None, if◌then◌else◌, slice_get}
+use Rattle.std.specs.Prelude.{ℕ, suc, ◌-◌, ◌==◌, Bool, true, false, List, [], ◌++◌, Option, Some, None, length}
+use Rattle.std.specs.Prelude.{take, if◌then◌else◌, slice_get}
 use Rattle.racer_base.specs.declared.ids.ClassId.{ClassId}
 use Rattle.racer_base.specs.declared.ids.MethodId.{MethodId}
 use Rattle.racer_base.specs.declared.ids.Kind.{Kind}
@@ -33,7 +34,7 @@ abbrev pub callee_found : Context → Option MethodId → Callee
 callee_found context None = Missing
 callee_found context (Some m) = callee_of m (info_at context m)
 
--- the method of a class by its name and its number of arguments, of two the first
+-- the method of a class that a call of its name with so many arguments means
 abbrev pub callee_in : Context → ClassId → List ℕ → ℕ → Callee
 callee_in context c name count = callee_found context (found context.folder.methods c name count)
 
@@ -69,36 +70,58 @@ result_kind context (OfObject m) = result_of (info_at context m)
 
 -- ---- the call
 
+-- the arguments, converted to kinds
+abbrev pub Passing : Type 0
+Passing = List Kind → Code
+
 abbrev pub parameters_of : Option MethodInfo → List Kind
 parameters_of None = []
 parameters_of (Some info) = info.parameters
 
--- what arguments are converted to: those of a method that is not analysed to nothing
-abbrev pub parameter_kinds : Context → MethodId → List Kind
-parameter_kinds context m = if is_analysed context m then parameters_of (info_at context m) else []
+-- what arguments of this number are converted to where these are the kinds of the parameters: where the two are others in
+-- number, those that the last parameter takes to nothing (JLS 15.12.4.2)
+abbrev pub given_kinds : ℕ → List Kind → List Kind
+given_kinds n kinds = if n == length kinds then kinds else take (length kinds - 1) kinds
 
--- the call with so many values, at the place of the name or of `new`
-abbrev pub call_at : Context → Place → MethodId → ℕ → Code
-call_at context place m n = op_at place (if is_analysed context m then Call m n else Unread m n)
+-- those of a method that is not analysed are converted to nothing
+abbrev pub parameter_kinds : Context → MethodId → ℕ → List Kind
+parameter_kinds context m n =
+    if is_analysed context m then given_kinds n (parameters_of (info_at context m)) else []
 
--- The arguments, converted to kinds.
-abbrev pub Passing : Type 0
-Passing = List Kind → Code
+-- how many values these are with the object that a method is called on
+abbrev pub with_object : (has_object : Bool) → ℕ → ℕ
+with_object true n = suc n
+with_object false n = n
+
+-- where the arguments and the parameters are others in number, the last parameter takes one value, which is made of those
+-- that are left
+abbrev pub gathered : Context → (arguments parameters : ℕ) → Code
+gathered context n parameters = if n == parameters then [] else op context (Outside (n - (parameters - 1)))
+
+abbrev pub call_of : Context → Place → MethodId → (has_object : Bool) → (arguments parameters : ℕ) → Code
+call_of context place m has_object n parameters =
+    gathered context n parameters ++ op_at place (Call m (with_object has_object parameters))
+
+-- the call with so many arguments, at the place of the name or of `new`
+abbrev pub call_at : Context → Place → MethodId → (has_object : Bool) → ℕ → Code
+call_at context place m has_object n =
+    if is_analysed context m then call_of context place m has_object n (length (parameters_of (info_at context m)))
+    else op_at place (Unread m (with_object has_object n))
 
 -- f(..)
 abbrev pub called : Context → Place → ℕ → Passing → Callee → Code
 called context place n arguments Missing = arguments [] ++ op context (Outside n)
-called context place n arguments (OfClass m) = arguments (parameter_kinds context m) ++ call_at context place m n
+called context place n arguments (OfClass m) = arguments (parameter_kinds context m n) ++ call_at context place m false n
 called context place n arguments (OfObject m) =
-    push_this context ++ arguments (parameter_kinds context m) ++ call_at context place m (suc n)
+    push_this context ++ arguments (parameter_kinds context m n) ++ call_at context place m true n
 
 -- e.f(..)
 abbrev pub called_on_value : Context → Place → Code → ℕ → Passing → Callee → Code
 called_on_value context place e n arguments Missing = e ++ arguments [] ++ op context (Outside (suc n))
 called_on_value context place e n arguments (OfClass m) =
-    e ++ op context Drop ++ arguments (parameter_kinds context m) ++ call_at context place m n
+    e ++ op context Drop ++ arguments (parameter_kinds context m n) ++ call_at context place m false n
 called_on_value context place e n arguments (OfObject m) =
-    e ++ arguments (parameter_kinds context m) ++ call_at context place m (suc n)
+    e ++ arguments (parameter_kinds context m n) ++ call_at context place m true n
 
 -- the same; behind the class that e names stands no object
 abbrev pub called_on : Context → Place → Option ClassId → Code → ℕ → Passing → Callee → Code
@@ -115,7 +138,7 @@ abbrev pub constructor_among : Context → Option MethodId → Option MethodId
 constructor_among context None = None
 constructor_among context (Some m) = constructor_of m (info_at context m)
 
--- the constructor of a class by its number of arguments, of two the first
+-- the constructor of a class that so many arguments mean
 abbrev pub constructor_in : Context → ClassId → ℕ → Option MethodId
 constructor_in context c count = constructor_among context (found context.folder.methods c constructor_name count)
 
@@ -123,7 +146,7 @@ constructor_in context c count = constructor_among context (found context.folder
 abbrev pub made_by : Context → Place → ClassId → ℕ → Passing → Option MethodId → Code
 made_by context place c n arguments None = arguments [] ++ op_at place (Outside n)
 made_by context place c n arguments (Some m) =
-    op_at place (New c) ++ arguments (parameter_kinds context m) ++ call_at context place m (suc n)
+    op_at place (New c) ++ arguments (parameter_kinds context m n) ++ call_at context place m true n
 
 -- new T(..), where T has this kind
 abbrev pub made : Context → Place → Kind → ℕ → Passing → Code

@@ -7,7 +7,8 @@ use Rattle.java_tree.specs.declared.methods.FieldInitialiser.{FieldInitialiser}
 use Rattle.java_tree.specs.declared.methods.FieldInitialiser.TheVariants as field
 use Rattle.java_tree.specs.declared.methods.FieldVariable.{FieldVariable}
 use Rattle.java_tree.specs.KeptPlaces.{init_places}
-use Rattle.java_tree.specs.MethodPlaces.{Marks, method_marks}
+use Rattle.java_tree.specs.KeptPlaces.{Marks}
+use Rattle.java_tree.specs.MethodPlaces.{method_marks}
 use Rattle.java_tree.specs.declared.unit.Unit.{Unit}
 use Rattle.java_tree.specs.declared.unit.ClassTree.{ClassTree}
 use Rattle.java_tree.specs.declared.unit.Member.{Member}
@@ -27,7 +28,7 @@ kept_of (Some place ∷ marks) = place ∷ kept_of marks
 
 abbrev pub initialiser_places : FieldInitialiser → List Place
 initialiser_places field.Absent = []
-initialiser_places (field.Formed i) = init_places i []
+initialiser_places (field.Formed i) = kept_of (init_places i [])
 initialiser_places field.Unread = []
 
 abbrev pub variable_places : FieldVariable → List Place

@@ -13,9 +13,10 @@ use Rattle.java_resolver.specs.declared.infos.FieldInfo.{FieldInfo}
 use Rattle.java_resolver.specs.declared.infos.MethodInfo.{MethodInfo}
 use Rattle.java_resolver.specs.declared.scope.Scope.{Scope}
 use Rattle.java_resolver.specs.declared.scope.Meaning.{Meaning}
+use Rattle.java_resolver.specs.declared.scope.VariableKind.{VariableKind}
 use Rattle.java_resolver.specs.Declarations.{class_names}
 use Rattle.java_resolver.specs.Meanings.{meaning}
-use Rattle.java_resolver.specs.TypeKinds.{kind_of}
+use Rattle.java_resolver.specs.TypeKinds.{kind_of, variable_kind}
 use Rattle.core_code.specs.declared.code.Op.{Op as CoreOp}
 use Rattle.core_code.specs.declared.code.Op.TheVariants.{Push, PushClass, Outside}
 use Rattle.core_code.specs.declared.code.Reason.{Reason}
@@ -76,7 +77,12 @@ pub record Context : Type 0 where
 
 -- the kind of a type that is written there
 abbrev pub type_kind : Context → Ty → Kind
-type_kind context t = kind_of (class_names context.folder.classes) t
+type_kind context t = kind_of context.scope.hidden (class_names context.folder.classes) t
+
+-- what is known of a variable of this type with so many `[ ]` behind its name
+abbrev pub variable_kind_in : Context → Ty → (further : ℕ) → VariableKind
+variable_kind_in context t further =
+    variable_kind context.scope.hidden (class_names context.folder.classes) t further
 
 -- what a simple name means there (JLS 6.5)
 abbrev pub meaning_of : Context → Ident → Meaning

@@ -1,19 +1,20 @@
 -- A contract of a public call rests on this: the kinds of expressions, and their code, a row a form (JLS 15, 10.6).
 -- Evaluation goes from left to right (JLS 15.7).
-use Rattle.std.specs.Prelude.{List, [], ◌∷◌, ◌++◌, Option, Some, None, if◌then◌else◌}
+use Rattle.std.specs.Prelude.{Bool, true, false, List, [], ◌∷◌, ◌++◌, Option, Some, None, if◌then◌else◌}
 use Rattle.racer_base.specs.declared.ids.ClassId.{ClassId}
 use Rattle.racer_base.specs.declared.ids.Kind.{Kind}
 use Rattle.racer_base.specs.declared.ids.Kind.TheVariants.{Plain, Declared, Other}
 use Rattle.java_tree.specs.declared.words.Ident.{Ident}
 use Rattle.java_resolver.specs.declared.scope.Meaning.{Meaning}
 use Rattle.java_resolver.specs.declared.scope.Meaning.TheVariants as means
-use Rattle.java_resolver.specs.TypeKinds.{class_named}
+use Rattle.java_resolver.specs.TypeKinds.{class_seen}
 use Rattle.java_resolver.specs.Declarations.{class_names}
+use Rattle.core_code.specs.Kinds.{same_class}
 use Rattle.core_code.specs.declared.code.Op.TheVariants.{PushClass, PushPrim, PushNull, Drop, Prim, Outside}
-use Rattle.core_lowering_rules.specs.Trees.{Expr, Text, This, ClassOf, Read, Unary, Cast, Logical, Binary}
+use Rattle.core_lowering_rules.specs.Trees.{Expr, Unknown, This, ClassOf, Read, Unary, Cast, Logical, Binary}
 use Rattle.core_lowering_rules.specs.Trees as tree
 use Rattle.core_lowering_rules.specs.Trees.{Conditional, Assign, Combine, Count, Paren, Call, CallOn, New, NewArray}
-use Rattle.core_lowering_rules.specs.Trees.{NewItems}
+use Rattle.core_lowering_rules.specs.Trees.{NewItems, NewBody, ThisOf, Refer, ToExpr, ToType}
 use Rattle.core_lowering_rules.specs.Trees.{Access, Named, Selected, Element, NoAccess, Exprs, no_expr, expr_then}
 use Rattle.core_lowering_rules.specs.Trees.{Init, Value, Items, Inits, no_init, init_then, count_exprs, count_inits}
 use Rattle.core_lowering_rules.specs.ValueKinds.{ValueKind, Of, Null, common_kind}
@@ -35,9 +36,9 @@ abbrev pub class_before : Context → Expr → Option ClassId
 class_before context (Read (Named x)) = class_meant (meaning_of context x)
 class_before context _ = None
 
--- the class of the folder that is written before `.class`, as one name
+-- the class of the folder that is written before `.class` or `.this`, as one name
 abbrev pub class_written : Context → List Ident → Option ClassId
-class_written context (x ∷ []) = class_named (class_names context.folder.classes) x.text
+class_written context (x ∷ []) = class_seen context.scope.hidden (class_names context.folder.classes) x.text
 class_written context _ = None
 
 abbrev pub class_object : Context → Option ClassId → Code
@@ -51,15 +52,47 @@ this_kind context = if context.scope.is_static then Of Other else Of (Declared c
 abbrev pub this_object : Context → Code
 this_object context = if context.scope.is_static then op context (Outside 0) else push_this context
 
+-- whether names are that of the class of the method
+abbrev pub is_own_class : Context → Option ClassId → Bool
+is_own_class context None = false
+is_own_class context (Some c) = same_class c context.scope.class
+
+-- `this` behind names: of any other class than the method's nothing is known (JLS 15.8.4)
+abbrev pub this_kind_of : Context → List Ident → ValueKind
+this_kind_of context xs = if is_own_class context (class_written context xs) then this_kind context else Of Other
+
+abbrev pub this_object_of : Context → List Ident → Code
+this_object_of context xs =
+    if is_own_class context (class_written context xs) then this_object context else op context (Outside 0)
+
+-- ---- method references
+
+abbrev pub is_value : Meaning → Bool
+is_value (means.Variable v kind) = true
+is_value (means.Field f) = true
+is_value _ = false
+
+-- whether what a method reference refers to is evaluated: all but a name of a class, and a name of nothing
+abbrev pub is_evaluated : Context → Expr → Bool
+is_evaluated context (Read (Named x)) = is_value (meaning_of context x)
+is_evaluated context _ = true
+
+-- of what has this code
+abbrev pub referred : Context → (is_evaluated : Bool) → Code → Code
+referred context true e = e ++ op context (Outside 1)
+referred context false e = op context (Outside 0)
+
 -- ---- kinds
 
 abbrev mutual
   pub kind : Context → Expr → ValueKind
   kind context tree.Prim = Of Plain
-  kind context Text = Of Other
+  kind context Unknown = Of Other
   kind context tree.Null = Null
   kind context This = this_kind context
   kind context (ClassOf xs) = Of Other
+  kind context (ThisOf xs) = this_kind_of context xs
+  kind context (Refer to) = Of Other
   kind context (Read a) = access_kind context a
   kind context (Unary e) = Of Plain
   kind context (Cast t e) = Of (type_kind context t)
@@ -73,6 +106,7 @@ abbrev mutual
   kind context (CallOn e x es) =
       result_kind context (callee_on context (class_before context e) (kind context e) x (count_exprs es))
   kind context (New place t es) = Of (type_kind context t)
+  kind context (NewBody place t es) = Of (type_kind context t)
   kind context (NewArray place lengths) = Of Other
   kind context (NewItems place items) = Of Other
   kind context (Paren e) = kind context e
@@ -99,10 +133,13 @@ abbrev mutual
   -- leaves one value
   pub code : Context → Expr → Code
   code context tree.Prim = op context PushPrim
-  code context Text = op context (Outside 0)
+  code context Unknown = op context (Outside 0)
   code context tree.Null = op context PushNull
   code context This = this_object context
   code context (ClassOf xs) = class_object context (class_written context xs)
+  code context (ThisOf xs) = this_object_of context xs
+  code context (Refer (ToExpr e)) = referred context (is_evaluated context e) (code context e)
+  code context (Refer ToType) = op context (Outside 0)
   code context (Read a) = read context (storage context a)
   code context (Unary e) = code context e ++ op context (Prim 1)
   code context (Cast t e) = code context e ++ cast context (type_kind context t)
@@ -122,6 +159,7 @@ abbrev mutual
       (count_exprs es))
   code context (New place t es) =
       made context place (type_kind context t) (count_exprs es) (λ kinds. passed context kinds es)
+  code context (NewBody place t es) = passed context [] es ++ op_at place (Outside (count_exprs es))
   code context (NewArray place lengths) = passed context [] lengths ++ op_at place (Outside (count_exprs lengths))
   code context (NewItems place items) = items_code context items ++ op_at place (Outside (count_inits items))
   code context (Paren e) = code context e

@@ -1,6 +1,6 @@
 -- A contract of a public call rests on this: the list of files.
 pub mod Trees
-pub mod Unlocks
+pub mod Sought
 pub mod TreesOf
 pub mod ValueKinds
 pub mod Context

@@ -16,7 +16,7 @@ use Rattle.java_tree.specs.View.{ty_of}
 use Rattle.java_tree.specs.declared.unit.Member.{Member}
 use Rattle.java_tree.specs.declared.unit.Member.TheVariants as member
 use Rattle.java_resolver.specs.declared.infos.MethodInfo.{MethodInfo}
-use Rattle.java_resolver.specs.Declarations.{is_constructor}
+use Rattle.java_resolver.specs.Declarations.{is_constructor, further_arrays}
 use Rattle.java_resolver.specs.Words.{has_word}
 use Rattle.core_code.specs.declared.code.LockKind.TheVariants.{Own}
 use Rattle.core_code.specs.declared.code.Op.TheVariants.{PushPrim, Drop, Outside}
@@ -29,10 +29,9 @@ use Rattle.core_lowering_rules.specs.ValueKinds.{ValueKind, Of}
 use Rattle.core_lowering_rules.specs.Context.{Folder, Context, Result, Itself, Nothing, Value, Code, op, made}
 use Rattle.core_lowering_drafts.specs.Sites.{lock_at}
 use Rattle.core_lowering_rules.specs.Context.{push_owner}
-use Rattle.core_lowering_rules.specs.Context.{type_kind}
 use Rattle.core_lowering_rules.specs.Assignments.{kind_in, of_name, assigned}
 use Rattle.core_lowering_rules.specs.Expressions.{init_kind, init_code}
-use Rattle.core_lowering_rules.specs.Scopes.{declared, after_all}
+use Rattle.core_lowering_rules.specs.Scopes.{of_type, after_all}
 use Rattle.core_lowering_rules.specs.Statements.{closed, returned, stmts}
 
 -- ---- what a method is made of
@@ -72,7 +71,12 @@ entered folder s =
       place = s.info.place;
       result = result_of s.info.result s.body;
       given = s.info.result;
-      scope = record { class = s.info.class; is_static = s.info.is_static; variables = [] };
+      scope = record {
+        class = s.info.class;
+        is_static = s.info.is_static;
+        hidden = s.info.hidden;
+        variables = [];
+      };
       kinds = this_kinds s.info;
       exits = 0;
       labels = [];
@@ -85,7 +89,7 @@ entered folder s =
 abbrev pub parameters_declared : Context → List ParameterTree → Context
 parameters_declared context [] = context
 parameters_declared context (p ∷ ps) =
-    parameters_declared (declared context (type_kind context (ty_of p.kind)) p.name) ps
+    parameters_declared (of_type context (ty_of p.kind) (further_arrays p) p.name) ps
 
 -- ---- what fields begin with
 
@@ -110,9 +114,12 @@ member_begun context (member.Field f) =
     else flat_map (λ (v : FieldVariable). field_begun context v.name v.initialiser) f.variables
 member_begun context _ = []
 
+-- they stand in no method: no variable is in scope there, and each name of a class means it
+abbrev pub outside_methods : Context → Context
+outside_methods context = record context { scope = record context.scope { hidden = []; variables = [] } }
+
 abbrev pub fields_begun : Context → List Member → Code
-fields_begun context members =
-    flat_map (member_begun (record context { scope = record context.scope { variables = [] } })) members
+fields_begun context members = flat_map (member_begun (outside_methods context)) members
 
 -- ---- code
 

@@ -7,40 +7,51 @@ use Rattle.std.specs.List.{list_any, find}
 use Rattle.racer_base.specs.declared.ids.VarId.{VarId}
 use Rattle.racer_base.specs.declared.ids.Kind.{Kind}
 use Rattle.racer_base.specs.declared.ids.Kind.TheVariants.{Declared, Other}
-use Rattle.java_resolver.specs.Meanings.{found}
+use Rattle.java_resolver.specs.Meanings.{exactly_found}
 use Rattle.java_tree.specs.declared.words.Ident.{Ident}
 use Rattle.java_resolver.specs.declared.scope.ScopeVariable.{ScopeVariable}
+use Rattle.java_resolver.specs.declared.scope.VariableKind.{VariableKind}
+use Rattle.java_tree.specs.Trees.{Ty}
 use Rattle.core_lowering_rules.specs.Trees.{Variable, Start, Declares, Runs, Stmt, Run, Local, If, IfElse, While, Do}
 use Rattle.core_lowering_rules.specs.Trees.{For}
 use Rattle.core_lowering_rules.specs.Trees.{ForEach, Sync, Return, Block, Empty, Throw, Break, Continue, Labelled}
 use Rattle.core_lowering_rules.specs.Trees.{Assert}
 use Rattle.core_lowering_rules.specs.Trees.{Switch, Locked, Try, Finally, Resource, Stmts, no_stmt, stmt_then, Groups}
 use Rattle.core_lowering_rules.specs.Trees.{no_group, group_then, Catches, no_catch, catch_then}
-use Rattle.core_lowering_rules.specs.Context.{Context, Target, Guard, type_kind}
-use Rattle.core_lowering_rules.specs.Unlocks.{do_unlock_any}
-use Rattle.core_lowering_rules.specs.Locks.{lock_kept, lock_noted}
+use Rattle.core_lowering_rules.specs.Context.{Context, Target, Guard, type_kind, variable_kind_in}
+use Rattle.core_lowering_rules.specs.Sought.{Unlocking, do_any_stand}
+use Rattle.core_lowering_rules.specs.Locks.{is_stored_in, lock_kept, lock_noted}
 
 -- the next variable
 abbrev pub next_variable : Context → VarId
 next_variable context = record { 0 = length context.kinds }
 
-abbrev pub new_variable : Context → Kind → Ident → ScopeVariable
-new_variable context kind x = record { name = x.text; id = next_variable context; kind = kind }
+abbrev pub new_variable : Context → VariableKind → Ident → ScopeVariable
+new_variable context known x =
+    record { name = x.text; id = next_variable context; kind = known.kind; is_lock = known.is_lock }
 
--- x is declared, and is in scope
-abbrev pub declared : Context → Kind → Ident → Context
-declared context kind x =
+-- x is declared as this, and is in scope
+abbrev pub declared : Context → VariableKind → Ident → Context
+declared context known x =
     record context {
-      scope = record context.scope { variables = context.scope.variables ++ new_variable context kind x ∷ [] };
-      kinds = context.kinds ++ kind ∷ [];
+      scope = record context.scope { variables = context.scope.variables ++ new_variable context known x ∷ [] };
+      kinds = context.kinds ++ known.kind ∷ [];
     }
 
-abbrev pub all_declared : Context → Kind → List Variable → Context
-all_declared context kind [] = context
-all_declared context kind (v ∷ vs) = all_declared (declared context kind v.name) kind vs
+-- the same with a type, and so many `[ ]` behind its name
+abbrev pub of_type : Context → Ty → (further : ℕ) → Ident → Context
+of_type context t further x = declared context (variable_kind_in context t further) x
+
+-- the parameter of a `catch`, of which no lock is known
+abbrev pub of_catch : Context → Ident → Context
+of_catch context x = declared context (record { kind = Other; is_lock = false }) x
+
+abbrev pub all_declared : Context → Ty → List Variable → Context
+all_declared context t [] = context
+all_declared context t (v ∷ vs) = all_declared (of_type context t v.arrays v.name) t vs
 
 abbrev pub started : Context → Start → Context
-started context (Declares t vs) = all_declared context (type_kind context t) vs
+started context (Declares t vs) = all_declared context t vs
 started context (Runs es) = context
 
 -- behind the end of a block, a `for` or a lock, with the scope that was before
@@ -163,29 +174,30 @@ after_last (Some v) context = after_return context
 
 -- ---- resources and `finally`
 
--- whether a method of the folder closes a resource
+-- whether a method of the folder without parameters closes a resource
 abbrev pub is_closed_by : Context → Kind → Bool
-is_closed_by context (Declared c) = is_some (found context.folder.methods c (codes "close") 0)
+is_closed_by context (Declared c) = is_some (exactly_found context.folder.methods c (codes "close") 0)
 is_closed_by context _ = false
 
 abbrev pub with_resource : Context → Resource → Context
 with_resource context r =
-    let kind = type_kind context r.kind in
-    record (declared context kind r.name) { is_apart = context.is_apart || is_closed_by context kind }
+    record (of_type context r.kind 0 r.name) {
+      is_apart = context.is_apart || is_closed_by context (type_kind context r.kind);
+    }
 
 abbrev pub with_resources : Context → List Resource → Context
 with_resources context [] = context
 with_resources context (r ∷ rs) = with_resources (with_resource context r) rs
 
 abbrev pub unlocked_in : Context → Stmts → Context
-unlocked_in context finally = record context { other_lock = context.other_lock || do_unlock_any finally }
+unlocked_in context finally = record context { other_lock = context.other_lock || do_any_stand Unlocking finally }
 
 -- ---- statements
 
 abbrev mutual
   pub after : Context → Stmt → Context
   after context (Run e) = context
-  after context (Local t vs) = all_declared context (type_kind context t) vs
+  after context (Local t vs) = all_declared context t vs
   after context (If e s) = after context s
   after context (IfElse e s t) = after (after context s) t
   after context (While c s) = back_from context (after (in_loop context) s)
@@ -194,7 +206,7 @@ abbrev mutual
       let started_in = started context i in
       back_in context (back_from started_in (after (in_loop started_in) s))
   after context (ForEach t x e s) =
-      let inside = declared context (type_kind context t) x in
+      let inside = of_type context t 0 x in
       back_in context (back_from inside (after (in_loop inside) s))
   after context (Sync place e ss) = back_in context (after_all context ss)
   after context (Return e) = after_return context
@@ -208,7 +220,7 @@ abbrev mutual
   after context (Assert e told) = context
   after context (Switch e gs) = back_in context (back_from context (after_groups (in_switch context) gs))
   after context (Locked place e ss catches) =
-      let behind = lock_noted (back_in context (after_all context ss)) e in
+      let behind = lock_noted (back_in context (after_all context ss)) e (is_stored_in e ss) in
       lock_kept behind (caught behind catches)
   after context (Try rs ss catches) =
       let behind = back_in context (after_all (with_resources context rs) ss) in
@@ -231,7 +243,7 @@ abbrev mutual
   pub caught : Context → Catches → Context
   caught context no_catch = context
   caught context (catch_then x ss catches) =
-      caught (lock_kept context (after_all (declared context Other x) ss)) catches
+      caught (lock_kept context (after_all (of_catch context x) ss)) catches
 
 -- behind a `try`
 abbrev pub caught_behind : Context → Catches → Context

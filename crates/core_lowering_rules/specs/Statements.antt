@@ -10,6 +10,7 @@ use Rattle.core_code.specs.declared.code.LockKind.TheVariants.{Own, Explicit}
 use Rattle.core_code.specs.declared.code.Op.TheVariants.{Push, PushPrim, Drop, Set, Outside, Ret}
 use Rattle.core_code.specs.declared.code.Op.TheVariants as Op
 use Rattle.core_lowering_drafts.specs.Drafts.{Normal, Exit, has, Leave, Never}
+use Rattle.java_tree.specs.Trees.{Ty}
 use Rattle.core_lowering_rules.specs.Trees.{Expr, Exprs, no_expr, expr_then, Init, Variable, Start, Declares, Runs}
 use Rattle.core_lowering_rules.specs.Trees.{Condition, Resource, Stmt, Run, Local, If, IfElse, While, Do, For, ForEach}
 use Rattle.core_lowering_rules.specs.Trees.{Sync, Return, Block, Empty, Throw, Break, Continue, Labelled, Assert}
@@ -19,9 +20,9 @@ use Rattle.core_lowering_rules.specs.Trees.{group_then}
 use Rattle.core_lowering_rules.specs.Context.{Context, Guard, Itself, Nothing, Value, Code, Result, ends_of, op, op_at}
 use Rattle.core_lowering_rules.specs.Context.{choice, repeated, again, held, within, ending, guarded, converted}
 use Rattle.core_lowering_rules.specs.Context.{push_this}
-use Rattle.core_lowering_rules.specs.Context.{type_kind}
+use Rattle.core_lowering_rules.specs.Context.{type_kind, variable_kind_in}
 use Rattle.core_lowering_rules.specs.Expressions.{kind, code, init_kind, init_code}
-use Rattle.core_lowering_rules.specs.Scopes.{next_variable, declared, started, after, after_all, after_groups, back_in}
+use Rattle.core_lowering_rules.specs.Scopes.{next_variable, of_type, started, after, after_all, after_groups, back_in}
 use Rattle.core_lowering_rules.specs.Scopes.{new_variables, in_loop, in_switch, in_labelled, with_label, is_loop}
 use Rattle.core_lowering_rules.specs.Scopes.{break_to}
 use Rattle.core_lowering_rules.specs.Scopes.{continue_to, in_guard, out_of_guard, returned_variable, with_resource}
@@ -45,14 +46,15 @@ begun context v kind None = []
 begun context v kind (Some i) = init_code context i ++ converted context kind (init_kind context i) ++ set context v
 
 -- each in scope from its own initialiser on
-abbrev pub begun_all : Context → Kind → List Variable → Code
-begun_all context kind [] = []
-begun_all context kind (v ∷ vs) =
-    begun (declared context kind v.name) (next_variable context) kind v.initialiser
-    ++ begun_all (declared context kind v.name) kind vs
+abbrev pub begun_all : Context → Ty → List Variable → Code
+begun_all context t [] = []
+begun_all context t (v ∷ vs) =
+    let inside = of_type context t v.arrays v.name in
+    begun inside (next_variable context) (variable_kind_in context t v.arrays).kind v.initialiser
+    ++ begun_all inside t vs
 
 abbrev pub start : Context → Start → Code
-start context (Declares t vs) = begun_all context (type_kind context t) vs
+start context (Declares t vs) = begun_all context t vs
 start context (Runs es) = run_all context es
 
 -- the condition of a `for`
@@ -166,7 +168,7 @@ abbrev mutual
   -- leaves the stack as it was
   pub stmt : Context → Stmt → Code
   stmt context (Run e) = run context e
-  stmt context (Local t vs) = begun_all context (type_kind context t) vs
+  stmt context (Local t vs) = begun_all context t vs
   stmt context (If e s) = run context e ++ choice (stmt context s) []
   stmt context (IfElse e s t) = run context e ++ choice (stmt context s) (stmt (after context s) t)
   stmt context (While c s) =
@@ -186,7 +188,7 @@ abbrev mutual
       ++ broken inside (is_endless c) body
       (repeated (one_round inside body ++ run_all behind updates ++ tested behind c)))
   stmt context (ForEach t x e s) =
-      let inside = declared context (type_kind context t) x in
+      let inside = of_type context t 0 x in
       let body = stmt (in_loop inside) s in
       closed context (after (in_loop inside) s) (run context e
       ++ broken inside false body

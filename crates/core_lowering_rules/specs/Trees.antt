@@ -12,10 +12,15 @@ mutual
   pub data Expr : Type 0 where
     -- a number, a character, `true`, `false`
     Prim : Expr
-    Text : Expr
+    -- of which nothing is known: a text, a lambda, a class literal but of names
+    Unknown : Expr
     Null : Expr
     This : Expr
     ClassOf : List Ident → Expr
+    -- `this` behind names
+    ThisOf : List Ident → Expr
+    -- a method reference
+    Refer : Referee → Expr
     Read : Access → Expr
     -- a prefix operator that stores nothing, and `instanceof`
     Unary : Expr → Expr
@@ -33,6 +38,8 @@ mutual
     Call : Ident → Exprs → Expr
     CallOn : Expr → Ident → Exprs → Expr
     New : Place → Ty → Exprs → Expr
+    -- with a class body
+    NewBody : Place → Ty → Exprs → Expr
     NewArray : Place → (lengths : Exprs) → Expr
     NewItems : Place → Inits → Expr
     Paren : Expr → Expr
@@ -43,6 +50,11 @@ mutual
     Selected : Expr → Ident → Access
     Element : Expr → Expr → Access
     NoAccess : Access
+
+  -- what a method reference refers to: an expression, or a type or `super`
+  pub data Referee : Type 0 where
+    ToExpr : Expr → Referee
+    ToType : Referee
 
   pub data Exprs : Type 0 where
     no_expr : Exprs
@@ -74,9 +86,10 @@ count_inits (init_then i is) = suc (count_inits is)
 
 -- ---- statements (JLS 14)
 
--- a variable, with what it begins with
+-- a variable, with the number of the `[ ]` behind its name, and what it begins with
 pub record Variable : Type 0 where
   pub name : Ident
+  pub arrays : ℕ
   pub initialiser : Option Init
 
 -- the condition of a loop, and whether it is the literal `true`

@@ -1,6 +1,6 @@
 -- A contract of a public call rests on this: the code's trees as trees that are lowered.
 use Rattle.std.specs.Prelude.{ℕ, Bool, false, ◌||◌, List, [], Option, Some, None, map, option_map, codes}
-use Rattle.std.specs.Prelude.{bytes_eq}
+use Rattle.std.specs.Prelude.{bytes_eq, ◌∷◌}
 use Rattle.std.specs.Prelude.{if◌then◌else◌}
 use Rattle.java_lexer.specs.declared.token.TokenKind.{TokenKind}
 use Rattle.java_lexer.specs.declared.token.TokenKind.TheVariants as token
@@ -8,10 +8,27 @@ use Rattle.java_tree.specs.declared.words.Ident.{Ident}
 use Rattle.java_tree.specs.declared.expressions.Expression.{Expression, out-Expression}
 use Rattle.java_tree.specs.declared.expressions.Initialiser.{Initialiser}
 use Rattle.java_tree.specs.declared.expressions.ArrayTree.{ArrayTree}
-use Rattle.java_tree.specs.declared.expressions.Expression.TheOpen.{Expression-F, Initialiser-F, ArrayTree-F}
+use Rattle.java_tree.specs.declared.expressions.LambdaBody.{LambdaBody}
+use Rattle.java_tree.specs.declared.expressions.Made.{Made}
+use Rattle.java_tree.specs.declared.expressions.Referred.{Referred}
+use Rattle.java_tree.specs.declared.expressions.CallTree.{CallTree}
+use Rattle.java_tree.specs.declared.expressions.CastTree.{CastTree}
+use Rattle.java_tree.specs.declared.expressions.InstanceTree.{InstanceTree}
+use Rattle.java_tree.specs.declared.expressions.LambdaTree.{LambdaTree}
+use Rattle.java_tree.specs.declared.expressions.NewTree.{NewTree}
+use Rattle.java_tree.specs.declared.expressions.ReferenceTree.{ReferenceTree}
+use Rattle.java_tree.specs.declared.types.TypeTree.{TypeTree}
+use Rattle.java_tree.specs.declared.expressions.Expression.TheOpen.{Expression-F, Initialiser-F, LambdaBody-F, Made-F}
+use Rattle.java_tree.specs.declared.expressions.Expression.TheOpen.{Referred-F, ArrayTree-F, CallTree-F, NewTree-F}
+use Rattle.java_tree.specs.declared.expressions.Expression.TheOpen.{ReferenceTree-F, CastTree-F, InstanceTree-F}
+use Rattle.java_tree.specs.declared.expressions.Expression.TheOpen.{LambdaTree-F}
 use Rattle.java_tree.specs.declared.expressions.Expression.TheOpen as expression
 use Rattle.java_tree.specs.declared.expressions.Expression.TheFolds.{fold-Expression, fold-Initialiser}
-use Rattle.java_tree.specs.declared.expressions.Expression.TheFolds.{fold-ArrayTree}
+use Rattle.java_tree.specs.declared.expressions.Expression.TheFolds.{fold-LambdaBody, fold-Referred, fold-ArrayTree}
+use Rattle.java_tree.specs.declared.expressions.Expression.TheFolds.{fold-Made, fold-CallTree, fold-NewTree}
+use Rattle.java_tree.specs.declared.expressions.Expression.TheFolds.{fold-ReferenceTree, fold-CastTree}
+use Rattle.java_tree.specs.declared.expressions.Expression.TheFolds.{fold-InstanceTree, fold-LambdaTree}
+use Rattle.racer_base.specs.declared.ids.Place.{Place}
 use Rattle.java_tree.specs.declared.statements.VariableTree.{VariableTree}
 use Rattle.java_tree.specs.declared.statements.StartTree.{StartTree}
 use Rattle.java_tree.specs.declared.statements.StartTree.TheVariants as start
@@ -27,10 +44,11 @@ use Rattle.java_tree.specs.declared.statements.Statement.TheOpen.{Statement-F, T
 use Rattle.java_tree.specs.declared.statements.Statement.TheOpen as statement
 use Rattle.java_tree.specs.declared.statements.Statement.TheFolds.{fold-Statement, fold-TryTree, fold-CatchTree}
 use Rattle.java_tree.specs.declared.statements.Statement.TheFolds.{fold-GroupTree}
+use Rattle.java_tree.specs.Trees.{Ty, Typed, Named as NamedType, no_part}
 use Rattle.java_tree.specs.View.{ty_of}
-use Rattle.core_lowering_rules.specs.Trees.{Expr, Prim, Text, Null, This, ClassOf, Read, Unary, Cast, Logical, Binary}
+use Rattle.core_lowering_rules.specs.Trees.{Expr, Prim, Unknown, Null, This, ClassOf, Read, Unary, Cast, Logical, Binary}
 use Rattle.core_lowering_rules.specs.Trees.{Conditional, Assign, Combine, Count, Paren, Call, CallOn, New, NewArray}
-use Rattle.core_lowering_rules.specs.Trees.{NewItems}
+use Rattle.core_lowering_rules.specs.Trees.{NewItems, NewBody, ThisOf, Refer, Referee, ToExpr, ToType}
 use Rattle.core_lowering_rules.specs.Trees.{Access, Named, Selected, Element, NoAccess, Init, Value, Items, Inits}
 use Rattle.core_lowering_rules.specs.Trees.{Variable}
 use Rattle.core_lowering_rules.specs.Trees.{Start, Declares, Runs, Stmt, Run, Local, If, IfElse, While, For, ForEach}
@@ -48,7 +66,7 @@ access_of _ = NoAccess
 
 -- a literal (JLS 15.8.1)
 abbrev pub literal : TokenKind → List ℕ → Expr
-literal token.Text text = Text
+literal token.Text text = Unknown
 literal token.Fixed text = if bytes_eq text (codes "null") then Null else Prim
 literal _ text = Prim
 
@@ -74,13 +92,22 @@ abbrev pub call : Option Expr → Ident → List Expr → Expr
 call None x all = Call x (pack_exprs all)
 call (Some a) x all = CallOn a x (pack_exprs all)
 
-abbrev pub expr_step : Expression-F Expr Init Inits → Expr
+-- of several types the first (JLS 15.16); a cast to none is not formed
+abbrev pub first_type : List TypeTree → Ty
+first_type [] = Typed (NamedType no_part) 0
+first_type (t ∷ ts) = ty_of t
+
+-- what a `new` makes of its place and type
+abbrev pub OfNew : Type 0
+OfNew = Place → Ty → Expr
+
+abbrev pub expr_step : Expression-F Expr Init Expr OfNew Referee Inits Expr Expr Expr Expr Expr Expr → Expr
 expr_step (expression.Assign a op b) = assignment op (access_of a.value) b.value
 expr_step (expression.Conditional a b c) = Conditional a.value b.value c.value
 expr_step (expression.Binary a op b) = binary op a.value b.value
-expr_step (expression.InstanceOf a t) = Unary a.value
+expr_step (expression.InstanceOf a) = a.value
 expr_step (expression.Prefix op a) = prefix op a.value
-expr_step (expression.Cast t a) = Cast (ty_of t) a.value
+expr_step (expression.Cast a) = a.value
 expr_step (expression.Postfix a op) = Count (access_of a.value)
 expr_step (expression.Literal k text) = literal k text
 expr_step expression.This = This
@@ -88,31 +115,122 @@ expr_step (expression.Name x) = Read (Named x)
 expr_step (expression.Paren a) = Paren a.value
 expr_step (expression.Field a x) = Read (Selected a.value x)
 expr_step (expression.Index a i) = Read (Element a.value i.value)
-expr_step (expression.Call a x all) = call (option_map (λ b. b.value) a) x all.items
+expr_step (expression.Call c) = c.value
 expr_step (expression.ClassOf xs) = ClassOf xs.items
-expr_step (expression.New place t all) = New place (ty_of t) (pack_exprs all.items)
-expr_step (expression.NewArray place t lengths n) = NewArray place (pack_exprs lengths.items)
-expr_step (expression.NewItems place t n items) = NewItems place items
+expr_step (expression.New n) = n.value
+expr_step (expression.Lambda l) = l.value
+expr_step (expression.Reference r) = r.value
+expr_step (expression.PlainClass t) = Unknown
+expr_step (expression.ThisOf xs) = ThisOf xs.items
 
-abbrev pub init_step : Initialiser-F Expr Init Inits → Init
+-- what a lambda gives is not lowered (JLS 15.27)
+abbrev pub behind_step : LambdaBody-F Expr Init Expr OfNew Referee Inits Expr Expr Expr Expr Expr Expr → Expr
+behind_step body = Unknown
+
+abbrev pub made_step : Made-F Expr Init Expr OfNew Referee Inits Expr Expr Expr Expr Expr Expr → OfNew
+made_step (expression.Object all) place t = New place t (pack_exprs all.items)
+made_step (expression.Anonymous all body) place t = NewBody place t (pack_exprs all.items)
+made_step (expression.Array lengths n) place t = NewArray place (pack_exprs lengths.items)
+made_step (expression.Filled n items) place t = NewItems place items
+
+abbrev pub before_step : Referred-F Expr Init Expr OfNew Referee Inits Expr Expr Expr Expr Expr Expr → Referee
+before_step (expression.Of a) = ToExpr a
+before_step (expression.Type t) = ToType
+before_step expression.Super = ToType
+
+abbrev pub init_step : Initialiser-F Expr Init Expr OfNew Referee Inits Expr Expr Expr Expr Expr Expr → Init
 init_step (expression.Value e) = Value e
 init_step (expression.Items items) = Items items
 
-abbrev pub array_step : ArrayTree-F Expr Init Inits → Inits
+abbrev pub array_step : ArrayTree-F Expr Init Expr OfNew Referee Inits Expr Expr Expr Expr Expr Expr → Inits
 array_step a = pack_inits a.items.items
 
+abbrev pub call_step : CallTree-F Expr Init Expr OfNew Referee Inits Expr Expr Expr Expr Expr Expr → Expr
+call_step c = call (option_map (λ b. b.value) c.receiver) c.name c.arguments.items
+
+abbrev pub cast_step : CastTree-F Expr Init Expr OfNew Referee Inits Expr Expr Expr Expr Expr Expr → Expr
+cast_step c = Cast (first_type c.types) c.value
+
+abbrev pub instance_step : InstanceTree-F Expr Init Expr OfNew Referee Inits Expr Expr Expr Expr Expr Expr → Expr
+instance_step i = Unary i.value
+
+abbrev pub lambda_step : LambdaTree-F Expr Init Expr OfNew Referee Inits Expr Expr Expr Expr Expr Expr → Expr
+lambda_step l = Unknown
+
+abbrev pub new_step : NewTree-F Expr Init Expr OfNew Referee Inits Expr Expr Expr Expr Expr Expr → Expr
+new_step n = n.made n.place (ty_of n.kind)
+
+abbrev pub reference_step : ReferenceTree-F Expr Init Expr OfNew Referee Inits Expr Expr Expr Expr Expr Expr → Expr
+reference_step r = Refer r.of
+
 abbrev pub expr_of : Expression → Expr
-expr_of = fold-Expression Expr Init Inits expr_step init_step array_step
+expr_of = fold-Expression Expr Init Expr OfNew Referee Inits Expr Expr Expr Expr Expr Expr
+    expr_step init_step behind_step made_step before_step array_step call_step cast_step
+    instance_step lambda_step new_step reference_step
 
 abbrev pub init_of : Initialiser → Init
-init_of = fold-Initialiser Expr Init Inits expr_step init_step array_step
+init_of = fold-Initialiser Expr Init Expr OfNew Referee Inits Expr Expr Expr Expr Expr Expr
+    expr_step init_step behind_step made_step before_step array_step call_step cast_step
+    instance_step lambda_step new_step reference_step
+
+abbrev pub behind_of : LambdaBody → Expr
+behind_of = fold-LambdaBody Expr Init Expr OfNew Referee Inits Expr Expr Expr Expr Expr Expr
+    expr_step init_step behind_step made_step before_step array_step call_step cast_step
+    instance_step lambda_step new_step reference_step
+
+abbrev pub made_of : Made → OfNew
+made_of = fold-Made Expr Init Expr OfNew Referee Inits Expr Expr Expr Expr Expr Expr
+    expr_step init_step behind_step made_step before_step array_step call_step cast_step
+    instance_step lambda_step new_step reference_step
+
+-- what stands before a `::` (JLS 15.13)
+abbrev pub referred_of : Referred → Referee
+referred_of = fold-Referred Expr Init Expr OfNew Referee Inits Expr Expr Expr Expr Expr Expr
+    expr_step init_step behind_step made_step before_step array_step call_step cast_step
+    instance_step lambda_step new_step reference_step
 
 abbrev pub items_of : ArrayTree → Inits
-items_of = fold-ArrayTree Expr Init Inits expr_step init_step array_step
+items_of = fold-ArrayTree Expr Init Expr OfNew Referee Inits Expr Expr Expr Expr Expr Expr
+    expr_step init_step behind_step made_step before_step array_step call_step cast_step
+    instance_step lambda_step new_step reference_step
+
+abbrev pub call_tree_of : CallTree → Expr
+call_tree_of = fold-CallTree Expr Init Expr OfNew Referee Inits Expr Expr Expr Expr Expr Expr
+    expr_step init_step behind_step made_step before_step array_step call_step cast_step
+    instance_step lambda_step new_step reference_step
+
+abbrev pub cast_tree_of : CastTree → Expr
+cast_tree_of = fold-CastTree Expr Init Expr OfNew Referee Inits Expr Expr Expr Expr Expr Expr
+    expr_step init_step behind_step made_step before_step array_step call_step cast_step
+    instance_step lambda_step new_step reference_step
+
+abbrev pub instance_tree_of : InstanceTree → Expr
+instance_tree_of = fold-InstanceTree Expr Init Expr OfNew Referee Inits Expr Expr Expr Expr Expr Expr
+    expr_step init_step behind_step made_step before_step array_step call_step cast_step
+    instance_step lambda_step new_step reference_step
+
+abbrev pub lambda_tree_of : LambdaTree → Expr
+lambda_tree_of = fold-LambdaTree Expr Init Expr OfNew Referee Inits Expr Expr Expr Expr Expr Expr
+    expr_step init_step behind_step made_step before_step array_step call_step cast_step
+    instance_step lambda_step new_step reference_step
+
+abbrev pub new_tree_of : NewTree → Expr
+new_tree_of = fold-NewTree Expr Init Expr OfNew Referee Inits Expr Expr Expr Expr Expr Expr
+    expr_step init_step behind_step made_step before_step array_step call_step cast_step
+    instance_step lambda_step new_step reference_step
+
+abbrev pub reference_tree_of : ReferenceTree → Expr
+reference_tree_of = fold-ReferenceTree Expr Init Expr OfNew Referee Inits Expr Expr Expr Expr Expr Expr
+    expr_step init_step behind_step made_step before_step array_step call_step cast_step
+    instance_step lambda_step new_step reference_step
 
 -- ---- statements
 
-abbrev pub is_true_in : Expression-F Expression Initialiser ArrayTree → Bool
+abbrev pub Layer : Type 0
+Layer = Expression-F Expression Initialiser LambdaBody Made Referred ArrayTree CallTree CastTree InstanceTree LambdaTree
+    NewTree ReferenceTree
+
+abbrev pub is_true_in : Layer → Bool
 is_true_in (expression.Literal k text) = bytes_eq text (codes "true")
 is_true_in _ = false
 
@@ -120,7 +238,7 @@ abbrev pub condition_of : Expression → Condition
 condition_of e = record { on = expr_of e; is_true = is_true_in (out-Expression e) }
 
 abbrev pub variable_of : VariableTree → Variable
-variable_of d = record { name = d.name; initialiser = option_map init_of d.initialiser }
+variable_of d = record { name = d.name; arrays = d.arrays; initialiser = option_map init_of d.initialiser }
 
 abbrev pub start_of : StartTree → Start
 start_of (start.Local l) = Declares (ty_of l.kind) (map variable_of l.variables)
@@ -151,10 +269,12 @@ stmt_step (statement.If e s t) = if_of (expr_of e) s.value (option_map (λ b. b.
 stmt_step (statement.While e s) = While (condition_of e) s.value
 stmt_step (statement.For i condition updates s) =
     For (start_of i) (option_map condition_of condition) (pack_exprs (map expr_of updates.items)) s.value
-stmt_step (statement.ForEach is_final t x e s) = ForEach (ty_of t) x (expr_of e) s.value
+stmt_step (statement.ForEach v e s) = ForEach (ty_of v.kind) v.name (expr_of e) s.value
 stmt_step (statement.Sync place e ss) = Sync place (expr_of e) (pack_stmts ss.items)
 stmt_step (statement.Return e) = Return (option_map expr_of e)
 stmt_step statement.Empty = Empty
+-- a local class is kept as tokens
+stmt_step (statement.LocalClass x ts) = Empty
 stmt_step (statement.Do s e) = Do s.value (condition_of e)
 stmt_step (statement.Throw place e) = Throw place (expr_of e)
 stmt_step (statement.Break x) = Break x

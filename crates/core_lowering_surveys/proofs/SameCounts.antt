@@ -13,7 +13,7 @@ use Rattle.racer_base.proofs.Tests.{bytes_same}
 use Rattle.core_lowering_rules.proofs.Texts.{bytes_is}
 use Rattle.java_resolver.specs.declared.infos.MethodInfo.{MethodInfo}
 use Rattle.java_resolver.specs.Firsts.{first_that}
-use Rattle.java_resolver.specs.Meanings.{is_called, found}
+use Rattle.java_resolver.specs.Meanings.{is_called, exactly_found}
 use Rattle.core_lowering_rules.specs.Programs.{is_overloaded}
 use Rattle.core_lowering_rules.proofs.FoundElements.{first-passes, numbered-method}
 use Rattle.core_lowering_surveys.specs.Counts.{first_of, is_number, tally}
@@ -51,9 +51,9 @@ is-one a b s =
 
 first-same : (methods : List MethodInfo) (a b : MethodInfo) → CalledAs b a → first_of methods b ≡ first_of methods a
 first-same methods a b s =
-    ap (λ (c : ClassId). found methods c b.name (length b.parameters)) s.class
-    ∙ ap (λ text. found methods a.class text (length b.parameters)) s.name
-    ∙ ap (λ n. found methods a.class a.name n) s.many
+    ap (λ (c : ClassId). exactly_found methods c b.name (length b.parameters)) s.class
+    ∙ ap (λ text. exactly_found methods a.class text (length b.parameters)) s.name
+    ∙ ap (λ n. exactly_found methods a.class a.name n) s.many
 
 -- the first method of one is called as it
 first-there : (methods : List MethodInfo) (a : MethodInfo) (f : MethodId) → first_of methods a ≡ Some f →

@@ -4,11 +4,11 @@ use Rattle.std.specs.Prelude.{◌≡◌, ℕ, ◌+◌, Bool, false, List, [], �
 use Rattle.std.specs.Prelude.{slice_index_or, if◌then◌else◌}
 use Rattle.racer_base.specs.declared.ids.MethodId.{MethodId}
 use Rattle.java_resolver.specs.declared.infos.MethodInfo.{MethodInfo}
-use Rattle.java_resolver.specs.Meanings.{found}
+use Rattle.java_resolver.specs.Meanings.{exactly_found}
 
 -- the first method that is called as this one
 abbrev pub first_of : List MethodInfo → MethodInfo → Option MethodId
-first_of methods m = found methods m.class m.name (length m.parameters)
+first_of methods m = exactly_found methods m.class m.name (length m.parameters)
 
 abbrev pub is_number : Option MethodId → ℕ → Bool
 is_number None n = false

@@ -16,7 +16,7 @@ fn first_of(table: &Table, info: &MethodInfo) -> Result<Option<MethodId>, Memory
     let Ok(count) = u32::try_from(info.parameters.len()) else {
         return Err(Memory);
     };
-    Ok(table.find(info.class, info.name.as_str(), count))
+    Ok(table.find_exactly(info.class, info.name.as_str(), count))
 }
 
 /// Counts one more at a method.

@@ -6,15 +6,15 @@ use Rattle.std.specs.Prelude.{if◌then◌else◌}
 use Rattle.std.specs.List.{AllZip}
 use Rattle.java_lexer.specs.declared.token.Token.{Token}
 use Rattle.java_tree.specs.declared.methods.FieldVariable.{FieldVariable}
-use Rattle.java_tree.specs.Formed.{Each}
+use Rattle.java_tree.specs.FormedModifiers.{Each}
 use Rattle.java_parser_grammar.specs.Tokens.{begins_sign}
 use Rattle.java_parser_grammar.specs.Pieces.{Item, items_of}
 use Rattle.java_parser_grammar.specs.FieldDivisions.{IsVariable, IsRead, IsDivided, AreRead, before_first}
 use Rattle.java_parser_grammar.specs.FieldDivisions.{between_commas}
-use Rattle.java_parser.specs.Divisions.{HasTree, NoDivision, EndsVariable, IsOnlySize, NoVariable, IsSized, IsCut}
-use Rattle.java_parser.specs.Divisions.{Passes, IsFirst, Divides, left_pieces}
+use Rattle.java_parser.specs.Divisions.{HasTree, NoDivision, EndsVariable, IsBehind, IsOnlySize, NoVariable, IsSized}
+use Rattle.java_parser.specs.Divisions.{IsCut, Passes, IsFirst, Divides, left_pieces}
 use Rattle.java_parser.proofs.SameEnds.{same_ends}
-use Rattle.java_parser.proofs.VariableSteps.{read_has_tree}
+use Rattle.java_parser.proofs.VariableSteps.{read_has_tree, comma_ends_types, divided_ends_types}
 
 -- ---- the first variable of a division
 
@@ -24,7 +24,7 @@ record Head (ts : List Token) : Type 0 where
   pub rest : List Token
   pub tree : HasTree piece
   pub parts : ts ≡ piece ++ rest
-  pub ends : EndsVariable rest
+  pub ends : IsBehind rest
   pub others : List (List Token)
   pub more : (comma : Token) (left : List Token) → rest ≡ comma ∷ left
       → (vs : List FieldVariable) × AreRead left others vs
@@ -40,7 +40,7 @@ head ts ps vs a = by_pieces ps vs a.divided a.variables a.read where
     rest = [];
     tree = read_has_tree p v z.0 r.0;
     parts = d ∙ sym (append-nil p);
-    ends = tt;
+    ends = (tt, λ limit depth. refl);
     others = [];
     more = λ comma left e. absurd cc;
   }
@@ -49,7 +49,7 @@ head ts ps vs a = by_pieces ps vs a.divided a.variables a.read where
     rest = d.0 ∷ d.1;
     tree = read_has_tree p v z.0 r.0;
     parts = d.2;
-    ends = d.3;
+    ends = (d.3, comma_ends_types d.0 d.1 d.3 (divided_ends_types (q ∷ ps) d.1 vs d.4 z.1 r.1));
     others = q ∷ ps;
     more = λ comma left e.
         let same : d.1 ≡ left = cc in (
@@ -84,7 +84,7 @@ pub no_comma : (ts front rest : List Token) (n : ℕ) → IsOnlySize ts n → ts
     → (EndsVariable rest → ⊥) → NoDivision ts
 no_comma ts front rest n only parts size other = λ ps vs a.
     let h = head ts ps vs a in
-    other (subst EndsVariable (behind_head ts n front rest only parts size h) h.ends)
+    other (subst EndsVariable (behind_head ts n front rest only parts size h) h.ends.0)
 
 passes_on : (ts front rest : List Token) (n : ℕ) → IsOnlySize ts n → ts ≡ front ++ rest → length front ≡ n
     → (left : Option (List Token)) → IsCut rest [] left → Passes ts left

@@ -13,7 +13,8 @@ use Rattle.java_tree.specs.Trees.{Arguments, Angled, ArgumentList, no_argument, 
 use Rattle.java_tree.specs.Trees.{Extends, Super, Result, NoResult, VoidResult, TypeResult}
 use Rattle.java_tree.specs.Spelling.{brackets_onto, ty_onto, base_onto, more_parts_onto, part_onto}
 use Rattle.java_tree.specs.Spelling.{angled_onto, arguments_onto, more_arguments_onto, argument_onto, result_onto}
-use Rattle.java_tree.specs.Formed.{FormedTy, FormedParts, FormedPart, FormedResult}
+use Rattle.java_tree.specs.FormedMethods.{FormedResult}
+use Rattle.java_tree.specs.Formed.{FormedTy, FormedParts, FormedPart}
 use Rattle.java_tree.specs.Nesting.{ty_nesting, parts_nesting, part_nesting, result_nesting}
 use Rattle.racer_base.specs.declared.limits.TheConstants.{MAX_NESTING}
 use Rattle.java_parser_grammar.proofs.Appended.{part_append}

@@ -8,19 +8,22 @@ use Rattle.java_tree.specs.declared.words.Spelled.{Spelled}
 use Rattle.java_tree.specs.Words.{keyword, sign}
 use Rattle.java_tree.specs.Trees.{Modifier, Word, Annotated, Ty, Typed, Plain, Named, no_part, part_then}
 use Rattle.java_tree.specs.Trees.{Bare, Generic}
-use Rattle.java_tree.specs.Spelling.{modifier_onto, modifiers_onto, annotation_onto, ty_onto, brackets_onto}
-use Rattle.java_tree.specs.Formed.{Each, FormedAnnotation, FormedTy, is_plain_word}
+use Rattle.java_tree.specs.Spelling.{modifier_onto, modifiers_onto, ty_onto, brackets_onto}
+use Rattle.java_tree.specs.FormedModifiers.{Each}
+use Rattle.java_tree.specs.Formed.{FormedTy, is_plain_word}
 use Rattle.java_parser_grammar.specs.Taking.{after_sign}
-use Rattle.java_parser_grammar.specs.MethodReading.{annotation_at}
+use Rattle.java_parser_grammar.specs.BalancedReading.{annotation_at}
 use Rattle.java_parser_grammar.proofs.Annotations.{EndsAnnotation, annotation_found}
-use Rattle.java_parser_grammar.proofs.Ensuring.{Ensures, then_ensures, if_ensures, match_ensures, sign_taken, of_equation}
-use Rattle.java_parser_grammar.proofs.SoundAnnotations.{Taken, annotation_sound}
+use Rattle.java_parser_grammar.proofs.Ensuring.{Ensures, then_ensures, if_ensures, match_ensures, sign_taken}
+use Rattle.java_parser_grammar.proofs.Ensuring.{of_equation}
+use Rattle.java_parser_grammar.proofs.SoundAnnotations.{annotation_sound}
 use Rattle.java_parser_grammar.proofs.StatementFronts.{plain_cases}
 use Rattle.java_parser_grammar.specs.FieldDivisions.{FormedFieldModifier, is_field_modifier}
 use Rattle.java_parser_grammar.proofs.Appended.{modifiers_append}
 use Rattle.java_parser_types.specs.Tokens.{spelled}
 use Rattle.java_parser.proofs.SameEnds.{plain_ends}
-use Rattle.java_parser.specs.FieldModifiers.{after_field_modifier, field_modifier_at, EndsModifiers, Spells}
+use Rattle.java_parser_methods.specs.ModifierReading.{word_at}
+use Rattle.java_parser.specs.FieldModifiers.{field_modifier_at, EndsModifiers, Spells}
 use Rattle.java_parser.specs.FieldModifiers.{SkipsModifiers, NoModifiers, AreModifiers}
 
 -- ---- a modifier is found
@@ -87,7 +90,7 @@ skips_fail ts rest skips e = λ ms end s ends. let x = skips ms end s ends in no
 
 word_by : (k : TokenKind) (word : List ℕ) (glued : Bool) (ts : List Spelled)
     → Ensures (λ w. (record { kind = k; text = word; glued = glued } ∷ ts ≡ keyword w.0 ∷ w.1)
-    × IsTrue (is_field_modifier w.0)) (after_field_modifier (record { kind = k; text = word; glued = glued } ∷ ts))
+    × IsTrue (is_field_modifier w.0)) (word_at is_field_modifier (record { kind = k; text = word; glued = glued } ∷ ts))
 word_by kind.Keyword word false ts =
     if_ensures (λ (w : List ℕ × List Spelled). (keyword word ∷ ts ≡ keyword w.0 ∷ w.1)
     × IsTrue (is_field_modifier w.0)) (is_field_modifier word) (Some (word, ts)) None (λ h. (refl, h)) (λ h. tt)
@@ -95,7 +98,7 @@ word_by kind.Keyword word true ts = tt
 word_by _ word glued ts = tt
 
 word_taken : (ts : List Spelled) → Ensures (λ w. (ts ≡ keyword w.0 ∷ w.1) × IsTrue (is_field_modifier w.0))
-    (after_field_modifier ts)
+    (word_at is_field_modifier ts)
 word_taken [] = tt
 word_taken (t ∷ ts) = word_by t.kind t.text t.glued ts
 
@@ -106,10 +109,9 @@ Got ts (Some x) = FormedFieldModifier x.0 × (ts ≡ modifier_onto x.0 x.1)
 modifier_sound : (ts : List Spelled) → Ensures (Got ts) (field_modifier_at ts)
 modifier_sound ts =
     match_ensures (λ r. ts ≡ sign (codes "@") ∷ r) (Got ts) (after_sign (codes "@") ts) _ _ (sign_taken (codes "@") ts)
-    (match_ensures (λ w. (ts ≡ keyword w.0 ∷ w.1) × IsTrue (is_field_modifier w.0)) (Got ts) (after_field_modifier ts)
-    _ _ (word_taken ts) tt (λ w e. (e.1, e.0)))
-    (λ r e. then_ensures (Taken FormedAnnotation annotation_onto (sign (codes "@") ∷ r)) (Got ts) (annotation_at r) _
-    (annotation_sound r) (λ x g. (g.formed, e ∙ g.spelled)))
+    (match_ensures (λ w. (ts ≡ keyword w.0 ∷ w.1) × IsTrue (is_field_modifier w.0)) (Got ts)
+    (word_at is_field_modifier ts) _ _ (word_taken ts) tt (λ w e. (e.1, e.0)))
+    (λ r e. then_ensures _ (Got ts) (annotation_at r) _ (annotation_sound r) (λ x g. (g.formed, e ∙ g.spelled)))
 
 each_push : (ms : List Modifier) (m : Modifier) → Each FormedFieldModifier ms → FormedFieldModifier m
     → Each FormedFieldModifier (ms ++ m ∷ [])

@@ -7,14 +7,14 @@ use Rattle.java_tree.specs.declared.words.Spelled.{Spelled}
 use Rattle.java_tree.specs.Words.{keyword}
 use Rattle.java_tree.specs.Trees.{Modifier, Result, NoResult, VoidResult, TypeResult}
 use Rattle.java_tree.specs.Spelling.{modifiers_onto, result_onto}
-use Rattle.java_tree.specs.Formed.{Each, FormedModifier, FormedResult}
+use Rattle.java_tree.specs.FormedMethods.{FormedResult}
 use Rattle.java_tree.specs.KeptPlaces.{kept}
 use Rattle.java_tree.specs.View.{ty_of}
 use Rattle.java_parser_grammar.specs.MethodReading.{modifiers_at}
-use Rattle.java_parser_grammar.specs.Taking.{is_keyword}
+use Rattle.java_tree.specs.Brackets.{is_keyword}
 use Rattle.java_parser_grammar.proofs.Annotations.{EndsModifiers, ends_void, ends_type, modifiers_fit, modifiers_found}
 use Rattle.java_parser_grammar.proofs.Ensuring.{of_equation, keyword_is}
-use Rattle.java_parser_grammar.proofs.SoundAnnotations.{Taken, modifiers_sound}
+use Rattle.java_parser_grammar.proofs.SoundAnnotations.{modifiers_sound}
 use Rattle.java_parser_grammar.proofs.TypeFronts.{formed_longer}
 use Rattle.java_tree.specs.declared.unit.HeadResult.{HeadResult}
 use Rattle.java_tree.specs.declared.unit.HeadResult.TheVariants.{Void, Formed, Constructor, Unknown}
@@ -133,8 +133,7 @@ is_head : (front rest : List Token) (r : Result) (ms : List Modifier)
     → modifiers_at (length (plain_all front)) (plain_all front) ≡ Some (ms, plain_all rest)
     → SpellsResult (plain_all rest) r → HasHead front r
 is_head front rest r ms read s =
-    let g = of_equation (Taken (Each FormedModifier) modifiers_onto (plain_all front))
-    (modifiers_at (length (plain_all front)) (plain_all front)) (ms, plain_all rest)
+    let g = of_equation _ (modifiers_at (length (plain_all front)) (plain_all front)) (ms, plain_all rest)
     (modifiers_sound (length (plain_all front)) (plain_all front)) read in (
       ms,
       record {
@@ -164,8 +163,7 @@ head_says_nothing front none = λ r some head. let read = head_read front r some
 pub modifiers_left : (front words rest left : List Token) → front ≡ words ++ rest → length rest ≡ length left
     → HasModifiers front left → HasModifiers front rest
 modifiers_left front words rest left parts size h =
-    let g = of_equation (Taken (Each FormedModifier) modifiers_onto (plain_all front))
-    (modifiers_at (length (plain_all front)) (plain_all front)) (h.0, plain_all left)
+    let g = of_equation _ (modifiers_at (length (plain_all front)) (plain_all front)) (h.0, plain_all left)
     (modifiers_sound (length (plain_all front)) (plain_all front)) h.1 in
     let k = plain_ends front words rest left (modifiers_onto h.0 []) parts size (g.spelled
     ∙ modifiers_append h.0 [] (plain_all left)) in

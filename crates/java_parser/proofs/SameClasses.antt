@@ -10,11 +10,12 @@ use Rattle.java_tree.specs.declared.methods.AnnotationTree.{AnnotationTree}
 use Rattle.java_tree.specs.declared.methods.MethodTree.{MethodTree}
 use Rattle.java_tree.specs.Trees.{Annotation, Method}
 use Rattle.java_tree.specs.Words.{identifier}
-use Rattle.java_tree.specs.Formed.{has_some, FormedMethod}
+use Rattle.java_tree.specs.FormedMethods.{FormedMethod}
+use Rattle.java_tree.specs.FormedModifiers.{has_some}
 use Rattle.java_tree.specs.Spelling.{behind_points, names_onto, spelling}
 use Rattle.java_tree.specs.MethodPlaces.{method_marks}
 use Rattle.java_tree.specs.View.{method_of}
-use Rattle.java_parser_grammar.specs.Lookahead.{begins_with}
+use Rattle.java_parser_grammar.specs.Leads.{begins_with}
 use Rattle.java_parser_grammar.specs.Taking.{after_sign}
 use Rattle.java_parser_grammar.proofs.FoundJava.{one_java_method}
 use Rattle.java_parser_grammar.proofs.Taken.{sign_is}

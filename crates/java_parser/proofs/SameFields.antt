@@ -10,7 +10,8 @@ use Rattle.java_tree.specs.declared.methods.FieldInitialiser.{FieldInitialiser}
 use Rattle.java_tree.specs.declared.methods.FieldInitialiser.TheVariants.{Absent, Formed, Unread}
 use Rattle.java_tree.specs.declared.methods.FieldTree.{FieldTree}
 use Rattle.java_tree.specs.declared.methods.FieldVariable.{FieldVariable}
-use Rattle.java_tree.specs.KeptPlaces.{ty_places}
+use Rattle.java_tree.specs.declared.expressions.Initialiser.{Initialiser}
+use Rattle.java_tree.specs.KeptPlaces.{Places, AreAt, kept, ty_places, init_places}
 use Rattle.java_tree.specs.Spelling.{ty_onto, modifiers_onto}
 use Rattle.java_tree.specs.Trees.{Ty, Modifier}
 use Rattle.java_tree.specs.View.{ty_of, init_of, modifier_of}
@@ -24,6 +25,9 @@ use Rattle.java_parser_grammar.specs.Pieces.{items_of}
 use Rattle.java_parser_grammar.specs.Tokens.{AreLast}
 use Rattle.java_parser_grammar.proofs.OneDivision.{one_division}
 use Rattle.java_parser_types.specs.Tokens.{spelled}
+use Rattle.java_parser_expressions.proofs.MarkShapes.{one_at}
+use Rattle.java_parser_expressions.proofs.ViewShapes.{init_shape}
+use Rattle.java_parser_expressions.proofs.ExpressionShapes.{init_fits}
 use Rattle.java_tree.proofs.TypeCounts.{ty_count, ty_counts}
 use Rattle.java_parser.specs.FieldModifiers.{field_modifier_at, EndsModifiers, Spells}
 use Rattle.java_parser.proofs.DeclaredFields.{declaration_spells, ends_type_here, variables_begin, push_ends, left_of}
@@ -45,6 +49,12 @@ two_zips P Q S same (x ∷ xs) (y ∷ ys) (z ∷ zs) h k =
 
 -- ---- variables
 
+same_init_marks : (i j : Initialiser) (ps : Places) → init_of i ≡ init_of j → AreAt (init_places i []) ps
+    → AreAt (init_places j []) ps → init_places i [] ≡ init_places j []
+same_init_marks i j ps e h k =
+    one_at (init_places i []) (init_places j []) ps
+    (init_fits i [] ∙ ap (λ v. init_shape v []) e ∙ sym (init_fits j [])) h k
+
 same_begins : (ts : List Token) (i j : FieldInitialiser) → BeginsWith ts i → BeginsWith ts j → SameInitialiser i j
 same_begins [] Absent Absent h k = tt
 same_begins [] Absent (Formed j) h k = absurd k
@@ -53,10 +63,9 @@ same_begins [] (Formed i) j h k = absurd h
 same_begins [] Unread j h k = absurd h
 same_begins (e ∷ ts) Absent j h k = absurd h
 same_begins (e ∷ ts) (Formed i) Absent h k = absurd k
-same_begins (e ∷ ts) (Formed i) (Formed j) h k = (
-  one_init (init_of i) (init_of j) h.1.formed k.1.formed (h.1.spelled ∙ sym k.1.spelled),
-  h.2 ∙ sym k.2,
-)
+same_begins (e ∷ ts) (Formed i) (Formed j) h k =
+    let same = one_init (init_of i) (init_of j) h.1.formed k.1.formed (h.1.spelled ∙ sym k.1.spelled) in
+    (same, same_init_marks i j (kept ts) same h.2 k.2)
 same_begins (e ∷ ts) (Formed i) Unread h k = absurd (k.2 (init_of i) h.1)
 same_begins (e ∷ ts) Unread Absent h k = absurd k
 same_begins (e ∷ ts) Unread (Formed j) h k = absurd (h.2 (init_of j) k.1)

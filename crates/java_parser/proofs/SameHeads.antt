@@ -9,7 +9,7 @@ use Rattle.java_tree.specs.Trees.{Result, NoResult, VoidResult, TypeResult}
 use Rattle.java_tree.specs.Spelling.{result_onto, ty_onto}
 use Rattle.java_tree.specs.Formed.{FormedTy, is_plain_word}
 use Rattle.java_tree.specs.View.{ty_of}
-use Rattle.java_parser_grammar.specs.Taking.{is_keyword_kind}
+use Rattle.java_tree.specs.Brackets.{is_keyword_kind}
 use Rattle.java_parser_grammar.proofs.FoundTypes.{one_type}
 use Rattle.java_tree.specs.declared.unit.HeadResult.{HeadResult}
 use Rattle.java_tree.specs.declared.unit.HeadResult.TheVariants.{Void, Formed, Constructor, Unknown}

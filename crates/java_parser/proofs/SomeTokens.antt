@@ -4,7 +4,7 @@ use Rattle.std.proofs.Common.{map, filter, length}
 use Rattle.std.proofs.Common.{refl, sym, subst, get_or, arith, IsTrue}
 use Rattle.std.specs.Prelude.{◌==◌}
 use Rattle.java_lexer.specs.declared.token.Token.{Token}
-use Rattle.java_tree.specs.Formed.{Each, has_some}
+use Rattle.java_tree.specs.FormedModifiers.{Each, has_some}
 use Rattle.java_parser_grammar.specs.Cuts.{with_cut, joined}
 use Rattle.java_parser_grammar.specs.Brackets.{depth_behind}
 use Rattle.java_parser_grammar.specs.Pieces.{Item, items_from, items_of}

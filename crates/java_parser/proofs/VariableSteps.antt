@@ -1,7 +1,7 @@
 -- Variables in front of tokens, with what they begin with, and where they end.
 use Rattle.std.proofs.Common.{◌≡◌, suc, ◌-◌, ◌≤◌, true, false, List, [], ◌∷◌, ◌++◌, Option}
-use Rattle.std.proofs.Common.{Some, None, codes, length, take, drop, map, refl, ap, sym, ◌∙◌, subst, arith}
-use Rattle.std.proofs.Common.{inl, inr, length-append, take-append-drop}
+use Rattle.std.proofs.Common.{Some, None, IsTrue, codes, length, take, drop, map, refl, ap, sym, ◌∙◌, subst, arith}
+use Rattle.std.proofs.Common.{inl, inr, append-nil, length-append, take-append-drop}
 use Rattle.std.proofs.Common.{length-drop}
 use Rattle.std.proofs.lemmas.Bool.{true≢false}
 use Rattle.std.specs.List.{AllZip}
@@ -15,25 +15,27 @@ use Rattle.java_tree.specs.Words.{sign}
 use Rattle.java_tree.specs.Brackets.{is_sign}
 use Rattle.java_tree.specs.Trees.{Init}
 use Rattle.java_tree.specs.Spelling.{init_onto}
-use Rattle.java_tree.specs.Formed.{Each, FormedInit}
+use Rattle.java_tree.specs.FormedModifiers.{Each}
+use Rattle.java_tree.specs.Formed.{FormedInit}
 use Rattle.java_tree.specs.Nesting.{init_nesting}
 use Rattle.java_tree.specs.View.{init_of}
-use Rattle.java_parser_grammar.specs.ExpressionReading.{init_at}
+use Rattle.java_parser_grammar.specs.ExpressionReading.{LeavesTypes, goes_typed, init_at}
+use Rattle.java_parser_grammar.specs.TypeReading.{EndsNoTypes}
 use Rattle.java_parser_grammar.specs.Leads.{pull}
-use Rattle.java_parser_grammar.proofs.Ensuring.{of_equation}
-use Rattle.java_parser_grammar.proofs.FoundExpressions.{init_found}
+use Rattle.java_parser_grammar.proofs.Ensuring.{of_equation, name_is}
+use Rattle.java_parser_grammar.proofs.FoundExpressions.{init_found, nothing_leaves}
 use Rattle.java_parser_grammar.proofs.Lengths.{init_longer}
 use Rattle.java_parser_grammar.proofs.SoundJava.{java_sound}
 use Rattle.java_parser_grammar.proofs.SoundSteps.{GotOne}
 use Rattle.java_parser_grammar.proofs.Taken.{sign_is, pull_comma, pull_nothing}
 use Rattle.java_parser_grammar.specs.Tokens.{is_name, is_sign_token}
-use Rattle.java_parser_grammar.specs.FieldDivisions.{IsInit, BeginsWith, IsVariable, IsRead}
+use Rattle.java_parser_grammar.specs.FieldDivisions.{IsInit, BeginsWith, IsVariable, IsRead, IsDivided}
 use Rattle.java_parser_grammar.specs.FieldDivisions.{AreVariables, between_commas}
 use Rattle.java_parser_grammar.specs.Pieces.{items_of}
 use Rattle.java_parser_grammar.proofs.Appended.{init_before}
 use Rattle.java_parser_types.specs.Tokens.{spelled}
 use Rattle.java_parser.specs.Divisions.{is_beginning, is_declarator, are_declarators, HasTree, HasValue}
-use Rattle.java_parser.specs.Divisions.{EndsVariable, NoVariable, IsSized}
+use Rattle.java_parser.specs.Divisions.{EndsVariable, IsBehind, NoVariable, IsSized}
 use Rattle.java_parser.specs.Divisions.{ArePieces}
 use Rattle.java_parser.proofs.SameEnds.{same_ends, plain_append, plain_length, same_size}
 
@@ -139,6 +141,43 @@ ends_pulls : (rest : List Token) → EndsVariable rest → pull (map spelled res
 ends_pulls [] h = omega (arith, pull_nothing)
 ends_pulls (t ∷ ts) h = rw (sign_is (codes ",") (spelled t) h) (omega (arith, pull_comma (map spelled ts)))
 
+ends_types : (rest : List Token) → IsBehind rest → LeavesTypes (map spelled rest)
+ends_types [] h = nothing_leaves
+ends_types (t ∷ ts) h =
+    let comma = sign_is (codes ",") (spelled t) h.0 in (
+      λ limit. ap (λ (s : Spelled). goes_typed limit (s ∷ map spelled ts)) comma,
+      h.1,
+      ap (λ (s : Spelled). s.glued) comma,
+    )
+
+first_is : {s u : Spelled} → s ≡ u → (rest : List Spelled) → EndsNoTypes (u ∷ rest) → EndsNoTypes (s ∷ rest)
+first_is e rest ends = subst (λ (l : Spelled). EndsNoTypes (l ∷ rest)) (sym e) ends
+
+tree_ends_types : (p rest : List Token) → HasTree p → EndsNoTypes (map spelled rest)
+    → EndsNoTypes (map spelled (p ++ rest))
+tree_ends_types [] rest h ends = absurd h
+tree_ends_types (t ∷ []) rest h ends = first_is (name_is (spelled t) h) (map spelled rest) ends
+tree_ends_types (t ∷ e ∷ ts) rest h ends =
+    first_is (name_is (spelled t) h.0) (map spelled (e ∷ ts ++ rest))
+    (first_is (sign_is (codes "=") (spelled e) h.1) (map spelled (ts ++ rest)) (λ limit depth. refl))
+
+pub comma_ends_types : (comma : Token) (ts : List Token) → IsTrue (is_sign_token (codes ",") comma)
+    → EndsNoTypes (map spelled ts) → EndsNoTypes (map spelled (comma ∷ ts))
+comma_ends_types comma ts h ends = first_is (sign_is (codes ",") (spelled comma) h) (map spelled ts) ends
+
+-- variables with trees end no type arguments
+pub divided_ends_types : (ps : List (List Token)) (ts : List Token) (vs : List FieldVariable) → IsDivided ps ts
+    → AllZip IsVariable ps vs → Each IsRead vs → EndsNoTypes (map spelled ts)
+divided_ends_types [] ts vs d z r = absurd d
+divided_ends_types (p ∷ ps) ts [] d z r = absurd z
+divided_ends_types (p ∷ []) ts (v ∷ vs) d z r =
+    subst (λ (l : List Token). EndsNoTypes (map spelled l)) (append-nil p ∙ sym d)
+    (tree_ends_types p [] (read_has_tree p v z.0 r.0) (λ limit depth. refl))
+divided_ends_types (p ∷ q ∷ ps) ts (v ∷ vs) d z r =
+    subst (λ (l : List Token). EndsNoTypes (map spelled l)) (sym d.2)
+    (tree_ends_types p (d.0 ∷ d.1) (read_has_tree p v z.0 r.0)
+    (comma_ends_types d.0 d.1 d.3 (divided_ends_types (q ∷ ps) d.1 vs d.4 z.1 r.1)))
+
 abbrev tail : List Token → List Token
 tail [] = []
 tail (t ∷ ts) = ts
@@ -148,12 +187,12 @@ behind None = []
 behind (Some x) = x.1
 
 -- an initialiser in front is read
-init_there : (value v rest : List Token) (i : Init) → value ≡ v ++ rest → IsInit v i → EndsVariable rest
+init_there : (value v rest : List Token) (i : Init) → value ≡ v ++ rest → IsInit v i → IsBehind rest
     → init_at MAX_NESTING (map spelled value) ≡ Some (i, map spelled rest)
 init_there value v rest i parts h ends =
     ap (init_at MAX_NESTING) (ap (map spelled) parts ∙ plain_append v rest ∙ ap (λ l. l ++ map spelled rest) (sym
     h.spelled) ∙ sym (init_before i (map spelled rest)))
-    ∙ init_found i h.formed MAX_NESTING (map spelled rest) h.nested (ends_pulls rest ends)
+    ∙ init_found i h.formed MAX_NESTING (map spelled rest) h.nested (ends_pulls rest ends.0) (ends_types rest ends)
 
 pub no_name : (ts : List Token) → length ts ≡ 0 → NoVariable ts
 no_name [] e = λ p rest h parts ends. empty p rest h parts where
@@ -194,12 +233,12 @@ bare t e ts named other =
 
 -- with an `=`, the piece is the name, the `=` and what is read behind it
 value_piece : (t e : Token) (value : List Token) → is_sign_token (codes "=") e ≡ true → (p rest : List Token)
-    → HasTree p → t ∷ e ∷ value ≡ p ++ rest → EndsVariable rest
+    → HasTree p → t ∷ e ∷ value ≡ p ++ rest → IsBehind rest
     → (i : Init) × (v : List Token) × (value ≡ v ++ rest) × IsInit v i × (length p ≡ suc (suc (length v)))
 value_piece t e value equals [] rest h parts ends = absurd h
 value_piece t e value equals (u ∷ []) [] h parts ends = absurd cc
 value_piece t e value equals (u ∷ []) (w ∷ rest) h parts ends =
-    let same : e ≡ w = cc in absurd (no_equals e equals (ap (is_sign_token (codes ",")) same ∙ ends))
+    let same : e ≡ w = cc in absurd (no_equals e equals (ap (is_sign_token (codes ",")) same ∙ ends.0))
 value_piece t e value equals (u ∷ w ∷ p) rest h parts ends =
     let others : value ≡ p ++ rest = cc in (h.2, p, others, h.3, refl)
 

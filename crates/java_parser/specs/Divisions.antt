@@ -5,8 +5,9 @@ use Rattle.racer_base.specs.declared.limits.TheConstants.{MAX_NESTING}
 use Rattle.java_lexer.specs.declared.token.Token.{Token}
 use Rattle.java_tree.specs.declared.methods.FieldVariable.{FieldVariable}
 use Rattle.java_tree.specs.Trees.{Init}
-use Rattle.java_tree.specs.Formed.{Each}
+use Rattle.java_tree.specs.FormedModifiers.{Each}
 use Rattle.java_parser_grammar.specs.ExpressionReading.{init_at}
+use Rattle.java_parser_grammar.specs.TypeReading.{EndsNoTypes}
 use Rattle.java_parser_types.specs.Tokens.{spelled}
 use Rattle.java_parser_grammar.specs.Tokens.{is_sign_token, is_name}
 use Rattle.java_parser_grammar.specs.Pieces.{items_of}
@@ -48,12 +49,16 @@ abbrev pub EndsVariable : List Token → Type 0
 EndsVariable [] = Unit {0}
 EndsVariable (t ∷ ts) = IsTrue (is_sign_token (codes ",") t)
 
+-- and no type arguments that were begun in the variable end behind it
+abbrev pub IsBehind : List Token → Type 0
+IsBehind rest = EndsVariable rest × EndsNoTypes (map spelled rest)
+
 -- a variable in front that has a tree has so many tokens
 abbrev pub IsOnlySize : List Token → ℕ → Type 0
-IsOnlySize ts n = (p rest : List Token) → HasTree p → ts ≡ p ++ rest → EndsVariable rest → length p ≡ n
+IsOnlySize ts n = (p rest : List Token) → HasTree p → ts ≡ p ++ rest → IsBehind rest → length p ≡ n
 
 abbrev pub NoVariable : List Token → Type 0
-NoVariable ts = (p rest : List Token) → HasTree p → ts ≡ p ++ rest → EndsVariable rest → ⊥
+NoVariable ts = (p rest : List Token) → HasTree p → ts ≡ p ++ rest → IsBehind rest → ⊥
 
 pub record IsSized (ts : List Token) (n : ℕ) : Type 0 where
   pub within : n ≤ length ts

@@ -1,26 +1,17 @@
 -- No public contract rests on this: reading the modifiers of fields.
-use Rattle.std.specs.Prelude.{◌≡◌, ℕ, false, List, [], ◌∷◌, Option, Some, None, codes, not, ◌&&◌, if◌then◌else◌}
+use Rattle.std.specs.Prelude.{◌≡◌, false, List, Option, Some, None, codes}
 use Rattle.java_tree.specs.declared.words.Spelled.{Spelled}
-use Rattle.java_tree.specs.Formed.{Each}
+use Rattle.java_tree.specs.FormedModifiers.{Each}
 use Rattle.java_tree.specs.Spelling.{modifiers_onto}
-use Rattle.java_tree.specs.Trees.{Modifier, Word, Annotated}
-use Rattle.java_parser_grammar.specs.Lookahead.{begins_with}
-use Rattle.java_parser_grammar.specs.MethodReading.{annotation_at}
-use Rattle.java_parser_grammar.specs.Taking.{◌>>=◌, match_option, after_sign, is_keyword_kind}
+use Rattle.java_tree.specs.Trees.{Modifier}
+use Rattle.java_parser_grammar.specs.Leads.{begins_with}
+use Rattle.java_parser_grammar.specs.Taking.{after_sign}
+use Rattle.java_parser_methods.specs.ModifierReading.{modifier_at}
 use Rattle.java_parser_grammar.specs.FieldDivisions.{FormedFieldModifier, is_field_modifier}
-
--- the word of a field in front, and the tokens behind it
-abbrev pub after_field_modifier : List Spelled → Option (List ℕ × List Spelled)
-after_field_modifier [] = None
-after_field_modifier (t ∷ ts) =
-    if is_keyword_kind t.kind && (not t.glued && is_field_modifier t.text) then Some (t.text, ts) else None
 
 -- a word or an annotation and the tokens behind it, where one stands
 abbrev pub field_modifier_at : List Spelled → Option (Option (Modifier × List Spelled))
-field_modifier_at ts = match_option (after_sign (codes "@") ts) (match_option (after_field_modifier ts) (Some None)
-    (λ w. Some (Some (Word w.0, w.1)))) (λ r. do
-      first ← annotation_at r
-      Some (Some (Annotated first.0, first.1)))
+field_modifier_at = modifier_at is_field_modifier
 
 -- tokens that do not go on with annotations and words of a field
 pub record EndsModifiers (rest : List Spelled) : Type 0 where

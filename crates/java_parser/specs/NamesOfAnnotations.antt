@@ -4,10 +4,10 @@ use Rattle.std.specs.Prelude.{if◌then◌else◌}
 use Rattle.std.specs.Prelude.{not, ◌||◌}
 use Rattle.java_lexer.specs.declared.token.Token.{Token}
 use Rattle.java_tree.specs.declared.methods.AnnotationTree.{AnnotationTree}
-use Rattle.java_tree.specs.Formed.{has_some}
+use Rattle.java_tree.specs.FormedModifiers.{has_some}
 use Rattle.java_tree.specs.Spelling.{names_onto}
 use Rattle.java_tree.specs.View.{annotation_of}
-use Rattle.java_parser_grammar.specs.Lookahead.{begins_with}
+use Rattle.java_parser_grammar.specs.Leads.{begins_with}
 use Rattle.java_parser_grammar.specs.Tokens.{plain_all, is_sign_token, is_name, begins_sign}
 
 abbrev pub after_point : List Token → Option (Token × List Token)

@@ -3,7 +3,7 @@ use Rattle.std.specs.Prelude.{◌≡◌, ◌⊎◌, true, false, not, List, [], 
 use Rattle.std.specs.List.{AllZip}
 use Rattle.racer_base.specs.declared.ids.Place.{Place}
 use Rattle.java_lexer.specs.declared.token.Token.{Token}
-use Rattle.java_tree.specs.Formed.{Each, has_some}
+use Rattle.java_tree.specs.FormedModifiers.{Each, has_some}
 use Rattle.java_tree.specs.declared.unit.ClassTree.{ClassTree}
 use Rattle.java_tree.specs.declared.unit.Unit as unit
 use Rattle.java_parser_grammar.specs.Units.{BeginsAt, is_read, IsClass}

@@ -5,7 +5,7 @@ use Rattle.java_lexer.specs.declared.token.Token.{Token}
 use Rattle.java_tree.specs.declared.words.Spelled.{Spelled}
 use Rattle.java_tree.specs.Trees.{Ty, Method, Modifier, Result, NoResult, VoidResult, TypeResult}
 use Rattle.java_tree.specs.Spelling.{result_onto}
-use Rattle.java_tree.specs.Formed.{FormedResult}
+use Rattle.java_tree.specs.FormedMethods.{FormedResult}
 use Rattle.java_tree.specs.Nesting.{result_nesting}
 use Rattle.java_tree.specs.KeptPlaces.{kept, ty_places}
 use Rattle.java_tree.specs.View.{ty_of}

@@ -1,7 +1,7 @@
 //! The division of fields at commas (JLS 8.3).
 ghost use Rattle.std.specs.Prelude.{◌≡◌, ◌<◌, ◌≤◌, ◌^◌, [], ◌∷◌, None, map, option_map, length, IfOk, IsErrOf};
 ghost use Rattle.racer_base.specs.declared.limits.TheConstants.{MAX_NESTING};
-ghost use Rattle.java_tree.specs.Formed.{Each};
+ghost use Rattle.java_tree.specs.FormedModifiers.{Each};
 ghost use Rattle.java_parser_grammar.specs.ExpressionReading.{init_at};
 ghost use Rattle.java_parser_grammar.specs.FieldDivisions.{IsDivided, between_commas};
 ghost use Rattle.java_parser_grammar.specs.Pieces.{items_of};

@@ -2,7 +2,7 @@
 ghost use Rattle.std.specs.Prelude.{◌≡◌, ℕ, List};
 ghost use Rattle.java_lexer.specs.declared.token.Token.{Token};
 ghost use Rattle.java_tree.specs.declared.methods.MethodTree as code;
-ghost use Rattle.java_tree.specs.Formed.{FormedMethod};
+ghost use Rattle.java_tree.specs.FormedMethods.{FormedMethod};
 ghost use Rattle.java_tree.specs.Spelling.{spelling};
 ghost use Rattle.java_tree.specs.Trees.{Method};
 ghost use Rattle.java_tree.specs.View.{method_of};

@@ -2,7 +2,8 @@
 ghost use Rattle.std.specs.Prelude.{◌≡◌, ◌<◌, ◌^◌, ◌↔◌, List, ℕ, IsTrue, length, map, IfOk, IsErrOf};
 ghost use Rattle.std.specs.List.{AllZip};
 ghost use Rattle.java_tree.specs.KeptPlaces.{kept};
-ghost use Rattle.java_tree.specs.MethodPlaces.{method_marks, AreAt};
+ghost use Rattle.java_tree.specs.KeptPlaces.{AreAt};
+ghost use Rattle.java_tree.specs.MethodPlaces.{method_marks};
 ghost use Rattle.java_tree.specs.Trees.{Method};
 ghost use Rattle.java_tree.specs.View.{method_of};
 ghost use Rattle.java_parser_grammar.specs.Heads.{IsMethod, has_synchronized};

@@ -9,7 +9,7 @@ use super::fronts::cut;
 use super::last_parts::last_part;
 use crate::pieces::{is_annotation, next_piece};
 use java_lexer::Token;
-use java_parser_methods::annotations::modifiers;
+use java_parser_methods::modifiers::modifiers;
 use java_parser_types::look::is_keyword;
 use java_parser_types::{ReadError, read_type};
 use java_tree::HeadResult;

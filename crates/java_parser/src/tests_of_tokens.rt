@@ -1,6 +1,6 @@
 //! Tests of tokens by the first of them, and its place.
 ghost use Rattle.std.specs.Prelude.{◌≡◌, IsTrue, map};
-ghost use Rattle.java_tree.specs.Formed.{has_some};
+ghost use Rattle.java_tree.specs.FormedModifiers.{has_some};
 ghost use Rattle.java_parser_grammar.specs.Tokens.{is_name, is_angle, is_keyword_of, begins, begins_sign, begins_word};
 ghost use Rattle.java_parser_grammar.specs.Units.{BeginsAt};
 

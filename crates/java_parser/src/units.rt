@@ -1,7 +1,7 @@
 //! Files (JLS 7.3).
 ghost use Rattle.std.specs.Prelude.{◌≡◌, ◌∷◌, ◌++◌, [], not, map, filter, IsTrue, IfOk, IfErr, OnOk, OnErr};
 ghost use Rattle.std.specs.List.{AllZip};
-ghost use Rattle.java_tree.specs.Formed.{has_some};
+ghost use Rattle.java_tree.specs.FormedModifiers.{has_some};
 ghost use Rattle.java_parser_grammar.specs.Units.{is_read, IsClass, BeginsAt, IsUnit, IsFault};
 ghost use Rattle.java_parser.specs.ReadTypes.{HaveTokens, AddsType, AreRead};
 

@@ -1,27 +1,32 @@
 -- Where another `(` is the first parenthesis behind a `(`, parentheses are read, and no operand behind them.
 use Rattle.std.proofs.Common.{◌≡◌, ◌∙◌, ℕ, zero, suc, Bool, true, false, not, ◌&&◌, ◌||◌, cond, List, [], ◌∷◌, Option}
 use Rattle.std.proofs.Common.{Some, None, refl, ap, codes}
-use Rattle.std.specs.Prelude.{bytes_eq}
+use Rattle.std.specs.Prelude.{bytes_eq, if◌then◌else◌}
 use Rattle.java_lexer.specs.declared.token.TokenKind.{TokenKind}
 use Rattle.java_lexer.specs.declared.token.TokenKind.TheVariants as kind
 use Rattle.java_tree.specs.declared.words.Spelled.{Spelled}
 use Rattle.java_tree.specs.Words.{sign_glued}
-use Rattle.java_tree.specs.Brackets.{is_some_and}
-use Rattle.java_tree.specs.Formed.{is_plain_word}
+use Rattle.java_tree.specs.Brackets.{is_keyword_kind, is_some_and}
+use Rattle.java_tree.specs.Formed.{FormedTy, are_plain, is_plain_word}
+use Rattle.java_tree.specs.Nesting.{most_over, ty_nesting}
 use Rattle.java_tree.specs.Operators.{unary_level, is_prefix}
 use Rattle.java_tree.specs.Trees.{Ty, Typed, Base, Plain, Named, Parts, no_part, part_then, Part, Bare, Generic}
 use Rattle.java_tree.specs.Trees.{Arguments, Angled, ArgumentList, no_argument, argument_then, Argument, Exact, Any}
 use Rattle.java_tree.specs.Trees.{Extends, Super, Expr, Cast, Paren}
 use Rattle.java_tree.specs.Spelling.{brackets_onto, ty_onto, base_onto, parts_onto, more_parts_onto, part_onto}
 use Rattle.java_tree.specs.Spelling.{angled_onto, arguments_onto, more_arguments_onto, argument_onto}
-use Rattle.java_parser_grammar.specs.Taking.{◌>>=◌, is_keyword_kind, after_sign}
-use Rattle.java_parser_grammar.specs.TypeReading.{ty_at, made_base_at}
+use Rattle.java_tree.specs.Spelling.{behind_sign, between_sign}
+use Rattle.java_parser_grammar.specs.Taking.{◌>>=◌, after_sign}
+use Rattle.java_parser_grammar.specs.TypeReading.{between_each, ty_at, made_base_at}
 use Rattle.java_parser_grammar.specs.Leads.{behind, is_plain_cast, opens_operand, opens_signed, casts}
-use Rattle.java_parser_grammar.specs.ExpressionReading.{Reading, cast_with, parens_with, operand_of, read_at, array_at}
+use Rattle.java_parser_grammar.specs.BalancedReading.{Reading}
+use Rattle.java_parser_grammar.specs.ExpressionReading.{cast_with, lambda_level, parens_with, operand_of, read_at}
+use Rattle.java_parser_grammar.specs.ExpressionReading.{array_at}
 use Rattle.java_parser_grammar.proofs.Behind.{balanced}
-use Rattle.java_parser_grammar.proofs.Ensuring.{of_equation}
+use Rattle.java_parser_grammar.proofs.Ensuring.{Ensures, of_equation, weaker}
 use Rattle.java_parser_grammar.proofs.SoundExpressions.{read_sound}
 use Rattle.java_parser_grammar.proofs.SoundLists.{Got}
+use Rattle.java_parser_grammar.proofs.SoundSteps.{GotOne, SomeOf, between_sound}
 use Rattle.java_parser_grammar.proofs.SoundTypes.{GotTy, ty_sound}
 use Rattle.java_parser_grammar.proofs.Taken.{after_sign_is}
 use Rattle.java_parser_lookahead.specs.FirstParenthesis.{behind_first}
@@ -81,31 +86,49 @@ mutual
   argument_passed (Extends t) rest = ty_passed t rest
   argument_passed (Super t) rest = ty_passed t rest
 
+signs_passed : (ts : List Ty) (rest : List Spelled) → behind_first (behind_sign (codes "&") ts rest) ≡ behind_first rest
+unfolding behind_first
+signs_passed [] rest = refl
+signs_passed (t ∷ ts) rest = ty_passed t _ ∙ signs_passed ts rest
+
+types_passed : (ts : List Ty) (rest : List Spelled) → behind_first (between_sign (codes "&") ts rest) ≡ behind_first
+    rest
+types_passed [] rest = refl
+types_passed (t ∷ ts) rest = ty_passed t _ ∙ signs_passed ts rest
+
 -- ---- where another one opens before
 
--- a type and `)` are not in front
-type_closes : (n : ℕ) (ts r : List Spelled) (t : Ty × List Spelled) → ty_at n ts ≡ Some t
-    → after_sign (codes ")") t.1 ≡ Some r → behind_first ts ≡ Some r
-unfolding behind_first
-type_closes n ts r t e d =
-    let got = of_equation (GotTy n ts) (ty_at n ts) t (ty_sound n ts) e in
-    ap behind_first got.spelled ∙ ty_passed t.0 t.1 ∙ ap behind_first (after_sign_is (codes ")") t.1 r d)
+types_sound : (n : ℕ) (ts : List Spelled) → Ensures (GotOne (SomeOf FormedTy) (most_over ty_nesting) (between_sign
+    (codes "&")) n ts) (between_each (codes "&") (ty_at n) ts)
+types_sound n ts =
+    between_sound FormedTy n (ty_at n) (λ r. weaker (GotTy n r) (GotOne FormedTy ty_nesting ty_onto n r) (ty_at n r)
+    (λ t g. record { formed = g.formed; small = g.small; spelled = g.spelled }) (ty_sound n r)) (codes "&") ts
 
-abbrev cast_of : (ℕ → Reading Expr) → Ty → List Spelled → Option (Expr × List Spelled)
-cast_of read t r = read unary_level r >>= λ a. Some (Cast t a.0, a.1)
+-- types and `)` are not in front
+types_close : (n : ℕ) (ts r : List Spelled) (x : List Ty × List Spelled) → between_each (codes "&") (ty_at n) ts
+    ≡ Some x → after_sign (codes ")") x.1 ≡ Some r → behind_first ts ≡ Some r
+unfolding behind_first
+types_close n ts r x e d =
+    let got = of_equation (GotOne (SomeOf FormedTy) (most_over ty_nesting) (between_sign (codes "&")) n ts)
+    (between_each (codes "&") (ty_at n) ts) x (types_sound n ts) e in
+    ap behind_first got.spelled ∙ types_passed x.0 x.1 ∙ ap behind_first (after_sign_is (codes ")") x.1 r d)
+
+abbrev cast_of : (ℕ → Reading Expr) → List Ty → List Spelled → Option (Expr × List Spelled)
+cast_of read types r =
+    read (if are_plain types then unary_level else lambda_level unary_level r) r >>= λ a. Some (Cast types a.0, a.1)
 
 no_cast : (read : ℕ → Reading Expr) (n : ℕ) (ts : List Spelled) → behind_first ts ≡ None
     → cast_with read (ty_at n) ts ≡ None
-no_cast read n ts none = by_type (ty_at n ts) refl where
-  by_close : (t : Ty × List Spelled) (o : Option (List Spelled)) → ty_at n ts ≡ Some t
-      → after_sign (codes ")") t.1 ≡ o → (o >>= cast_of read t.0) ≡ None
-  by_close t None e d = refl
-  by_close t (Some r) e d = let closed = type_closes n ts r t e d in absurd cc
+no_cast read n ts none = by_types (between_each (codes "&") (ty_at n) ts) refl where
+  by_close : (x : List Ty × List Spelled) (o : Option (List Spelled)) → between_each (codes "&") (ty_at n) ts ≡ Some x
+      → after_sign (codes ")") x.1 ≡ o → (o >>= cast_of read x.0) ≡ None
+  by_close x None e d = refl
+  by_close x (Some r) e d = let closed = types_close n ts r x e d in absurd cc
 
-  by_type : (o : Option (Ty × List Spelled)) → ty_at n ts ≡ o
-      → (o >>= λ t. after_sign (codes ")") t.1 >>= cast_of read t.0) ≡ None
-  by_type None e = refl
-  by_type (Some t) e = by_close t (after_sign (codes ")") t.1) e refl
+  by_types : (o : Option (List Ty × List Spelled)) → between_each (codes "&") (ty_at n) ts ≡ o
+      → (o >>= λ x. after_sign (codes ")") x.1 >>= cast_of read x.0) ≡ None
+  by_types None e = refl
+  by_types (Some x) e = by_close x (after_sign (codes ")") x.1) e refl
 
 word_passed : (k : TokenKind) (text : List ℕ) (glued : Bool) (ts : List Spelled) → is_keyword_kind k ≡ true
     → behind_first (record { kind = k; text = text; glued = glued } ∷ ts) ≡ behind_first ts
@@ -137,7 +160,7 @@ no_plain (t ∷ us) none = by_word (is_keyword_kind t.kind) (not t.glued && is_p
   by_word true false e = refl
   by_word true true e = by_close (after_sign (codes ")") us) e refl
 
-parens_close : (n : ℕ) (ts : List Spelled) (x : Expr × List Spelled) → parens_with (read_at n) ts ≡ Some x
+pub parens_close : (n : ℕ) (ts : List Spelled) (x : Expr × List Spelled) → parens_with (read_at n) ts ≡ Some x
     → behind 0 ts ≡ x.1
 unfolding behind
 parens_close n ts x e = by_part (read_at n 0 ts) refl e where
@@ -179,5 +202,5 @@ no_operand_behind n ts none =
 -- what is read behind the `(`
 pub parens_alone : (n : ℕ) (text : List ℕ) (ts : List Spelled) → is_prefix text ≡ false
     → bytes_eq text (codes "(") ≡ true → behind_first ts ≡ None
-    → operand_of (read_at n) (ty_at n) (made_base_at n) (array_at n) kind.Sign text ts ≡ lone_parens_with (read_at n) ts
+    → operand_of (read_at n) n (made_base_at n) (array_at n) kind.Sign text ts ≡ lone_parens_with (read_at n) ts
 parens_alone n text ts prefix round none = rw (prefix, round) (no_operand_behind n ts none)

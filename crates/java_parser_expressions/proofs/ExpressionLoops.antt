@@ -1,5 +1,5 @@
 -- The loops that read expressions: lengths, items of arrays and turns.
-use Rattle.std.proofs.Common.{◌≡◌, ℕ, zero, suc, ◌+◌, ◌-◌, ◌≤◌, ◌<◌, Bool, true, false, List, [], ◌∷◌, ◌++◌, length}
+use Rattle.std.proofs.Common.{◌≡◌, ℕ, suc, ◌+◌, ◌-◌, ◌≤◌, ◌<◌, Bool, true, false, List, [], ◌∷◌, ◌++◌, length}
 use Rattle.std.proofs.Common.{map, codes, Option, Some, None, refl, sym, ap, ◌∙◌}
 use Rattle.std.proofs.Common.{append_assoc, append-nil, arith}
 use Rattle.java_lexer.specs.declared.token.Token.{Token}
@@ -9,15 +9,13 @@ use Rattle.java_parser_types.specs.declared.error.ReadError.{ReadError}
 use Rattle.java_parser_types.specs.declared.error.ReadError.TheVariants.{Memory, Unformed}
 use Rattle.java_parser_grammar.specs.Taking.{◌>>=◌, match_option, after_sign}
 use Rattle.java_parser_grammar.specs.TypeReading.{after_brackets}
-use Rattle.java_parser_grammar.specs.Leads.{Lead, Assigns, Asks, Joins, Tests, Steps, Selects, Indexes, Opens, Ends}
 use Rattle.java_parser_grammar.specs.Leads.{lead}
-use Rattle.java_parser_grammar.specs.ExpressionReading.{Reading, Stop, Next, turn_with, climb_with, lengths_with}
-use Rattle.java_parser_grammar.specs.ExpressionReading.{items_with, operand_with, read_at, array_at}
-use Rattle.java_parser_grammar.specs.TypeReading.{ty_at, made_base_at}
+use Rattle.java_parser_grammar.specs.BalancedReading.{Reading}
+use Rattle.java_parser_grammar.specs.ExpressionReading.{Stop, Next, turn_with, climb_with, lengths_with}
+use Rattle.java_parser_grammar.specs.ExpressionReading.{items_with}
 use Rattle.java_parser_types.specs.Tokens.{spelled}
 use Rattle.java_parser_types.specs.Finishing.{finished}
 use Rattle.java_parser_types.specs.Endings.{length_behind, item_behind, items_close, items_end}
-use Rattle.java_parser_lookahead.specs.GoingOn.{goes_on}
 use Rattle.java_parser_types.specs.ReadAnswer.{Fails}
 use Rattle.java_parser_types.proofs.ReadLoops.{some_left, none_left, regroup}
 
@@ -191,28 +189,3 @@ climb_runs_out read n l i a ts total le so_far =
     let k : suc n - i ≡ 0 = omega arith in
     let one : climb_with read n l (suc n - i) a ts ≡ None = rw k refl in
     sym so_far ∙ one
-
--- what is read is an operand and its turns
-pub read_on : (n l : ℕ) (a : Expr × List Spelled) (ts : List Spelled) → (n ≡ 0 → ⊥) → operand_with (read_at (n - 1))
-    (ty_at (n - 1)) (made_base_at (n - 1)) (array_at (n - 1)) ts ≡ Some a
-    → read_at n l ts ≡ climb_with (read_at (n - 1)) (n - 1) l (suc (n - 1)) a.0 a.1
-unfolding read_at
-read_on zero l a ts some e = absurd (some refl)
-read_on (suc n) l a ts some e =
-    let k : suc n - 1 ≡ n = omega arith in
-    let first = rw k at e in
-    rw (k, first) refl
-
--- an expression that does not go on is whole
-pub stops : (read : ℕ → Reading Expr) (n l : ℕ) (a : Expr) (w : Lead) → goes_on l a w ≡ false
-    → turn_with read n l a w ≡ Some (Stop a)
-unfolding turn_with
-stops read n l a (Assigns op r) h = rw h refl
-stops read n l a (Asks r) h = rw h refl
-stops read n l a (Joins op r) h = rw h refl
-stops read n l a (Tests r) h = rw h refl
-stops read n l a (Steps op r) h = rw h refl
-stops read n l a (Selects r) h = rw h refl
-stops read n l a (Indexes r) h = rw h refl
-stops read n l a Opens h = refl
-stops read n l a Ends h = refl

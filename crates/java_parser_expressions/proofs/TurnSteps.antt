@@ -2,9 +2,12 @@
 use Rattle.std.proofs.Common.{◌≡◌, ℕ, true, false, Option, Some, Result, refl}
 use Rattle.java_tree.specs.Trees.{Expr, Postfix}
 use Rattle.java_parser_grammar.specs.Leads.{Lead, Assigns, Asks, Joins, Tests, Steps, Selects, Indexes, Opens, Ends}
-use Rattle.java_parser_grammar.specs.ExpressionReading.{Reading, Turn, Stop, turn_with, grown, assign_with}
+use Rattle.java_parser_grammar.specs.Leads.{Refers, Binds}
+use Rattle.java_parser_grammar.specs.BalancedReading.{Reading}
+use Rattle.java_parser_grammar.specs.ExpressionReading.{Turn, Stop, turn_with, grown, assign_with}
 use Rattle.java_parser_grammar.specs.ExpressionReading.{conditional_with}
 use Rattle.java_parser_grammar.specs.ExpressionReading.{binary_with, instance_with, select_with, index_with}
+use Rattle.java_parser_grammar.specs.ExpressionReading.{refer_with}
 use Rattle.java_parser_grammar.specs.ExpressionReading.{read_at}
 use Rattle.java_parser_types.specs.declared.error.ReadError.{ReadError}
 use Rattle.java_parser_types.specs.ReadAnswer.{Gives}
@@ -22,7 +25,9 @@ turned read n a (Tests r) = instance_with n a r
 turned read n a (Steps op r) = grown n (Postfix a op) r
 turned read n a (Selects r) = select_with read n a r
 turned read n a (Indexes r) = index_with read n a r
+turned read n a (Refers r) = refer_with n a r
 turned read n a Opens = Some (Stop a)
+turned read n a Binds = Some (Stop a)
 turned read n a Ends = Some (Stop a)
 
 module _ (read : ℕ → Reading Expr) (n l : ℕ) (a : Expr) where
@@ -35,7 +40,9 @@ module _ (read : ℕ → Reading Expr) (n l : ℕ) (a : Expr) where
   goes (Steps op r) e = rw e refl
   goes (Selects r) e = rw e refl
   goes (Indexes r) e = rw e refl
+  goes (Refers r) e = rw e refl
   goes Opens e = refl
+  goes Binds e = refl
   goes Ends e = refl
 
   stops : (k : Lead) → goes_on l a k ≡ false → turn_with read n l a k ≡ Some (Stop a)
@@ -47,7 +54,9 @@ module _ (read : ℕ → Reading Expr) (n l : ℕ) (a : Expr) where
   stops (Steps op r) e = rw e refl
   stops (Selects r) e = rw e refl
   stops (Indexes r) e = rw e refl
+  stops (Refers r) e = rw e refl
   stops Opens e = refl
+  stops Binds e = refl
   stops Ends e = refl
 
   pub turn_goes : (k here : Lead) → k ≡ here → goes_on l a k ≡ true → turn_with read n l a here ≡ turned read n a k

@@ -1,10 +1,11 @@
 -- No public contract rests on this: what is made of an expression by the sign behind it.
 use Rattle.std.specs.Prelude.{ℕ, Bool, List, [], Option, Some, None, codes, if◌then◌else◌}
 use Rattle.java_tree.specs.declared.words.Spelled.{Spelled}
-use Rattle.java_tree.specs.Trees.{Expr, Init, Paren, Index}
+use Rattle.java_tree.specs.Trees.{Expr, Init, Paren, Index, Lambda}
 use Rattle.java_parser_grammar.specs.Taking.{◌>>=◌, after_sign}
-use Rattle.java_parser_grammar.specs.Leads.{opens_operand}
-use Rattle.java_parser_grammar.specs.ExpressionReading.{Reading, Turn, grown, parens_with}
+use Rattle.java_parser_grammar.specs.BalancedReading.{Reading}
+use Rattle.java_parser_grammar.specs.ExpressionReading.{Turn, grown, parens_with}
+use Rattle.java_parser_grammar.specs.Leads.{ends_expression, opens_operand}
 
 -- an expression in parentheses (JLS 15.8.5)
 abbrev pub paren_end : Expr → Reading Expr
@@ -33,3 +34,7 @@ abbrev pub items_closed : (last_comma : Bool) → List Spelled → Option (List 
 items_closed last_comma ts = do
   r ← after_sign (codes "}") ts
   Some ([], last_comma, r)
+
+-- a lambda that gives this expression, which takes all that could go on with the lambda (JLS 15.27.2)
+abbrev pub lambda_end : (parameters : List Spelled) → Expr → Reading Expr
+lambda_end ps a ts = if ends_expression ts then Some (Lambda ps a, ts) else None

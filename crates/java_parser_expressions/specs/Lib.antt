@@ -1,3 +1,5 @@
 pub mod TurnView
 pub mod ClassFollows
 pub mod Closings
+pub mod References
+pub mod LambdaPlaces

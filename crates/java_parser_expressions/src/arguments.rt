@@ -8,6 +8,7 @@ ghost use Rattle.java_parser_grammar.specs.ExpressionReading.{call_arguments_wit
 ghost use Rattle.java_parser_types.specs.Tokens.{spelled};
 ghost use Rattle.java_parser_types.specs.Finishing.{finished};
 ghost use Rattle.java_parser_types.specs.Endings.{call_end};
+ghost use Rattle.java_parser_types.specs.LedPlaces.{Leads, LeadsOn};
 ghost use Rattle.java_parser_types.specs.ReadAnswer.{Gives};
 
 use super::expressions::read_expression;
@@ -30,7 +31,8 @@ pub fn call_arguments(
     requires room { suc (suc limit) < 2 ^ 32 }
     ensures gives { Gives (λ x. (map expr_of x.0.trees.items, map spelled x.1.now)) result (call_arguments_with
         (read_at limit) (map spelled tokens.now)) }
-    ensures places { IfOk result (λ x. each_puts (map expr_places x.0.trees.items) (kept x.1.now) ≡ kept tokens.now) }
+    ensures places { IfOk result (λ x. Leads (each_puts (map expr_places x.0.trees.items)) (kept tokens.now)
+        (kept x.1.now)) }
     ensures small { IfOk result (λ x. x.0.nesting ≤ limit) }
     ensures shorter { IfOk result (λ x. length x.1.now ≤ length tokens.now) }
 {
@@ -55,8 +57,8 @@ fn arguments(
     ensures gives { Gives (λ x. (map expr_of x.0.trees.items, map spelled x.1.now)) result (finished call_end
         (expr_of first.tree.value ∷ []) (commas (read_at limit assignment_level) (length (map spelled tokens.now))
         (map spelled tokens.now))) }
-    ensures places { IfOk result (λ x. each_puts (map expr_places x.0.trees.items) (kept x.1.now) ≡ expr_places
-        first.tree.value (kept tokens.now)) }
+    ensures places { IfOk result (λ x. LeadsOn (expr_places first.tree.value)
+        (each_puts (map expr_places x.0.trees.items)) (kept tokens.now) (kept x.1.now)) }
     ensures small { IfOk result (λ x. x.0.nesting ≤ limit) }
     ensures shorter { IfOk result (λ x. length x.1.now ≤ length tokens.now) }
 {

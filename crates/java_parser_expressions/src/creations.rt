@@ -1,6 +1,6 @@
 //! Reading what stands behind a `new` (JLS 15.9, 15.10).
 ghost use Rattle.std.specs.Prelude.{◌≡◌, ◌<◌, ◌≤◌, ◌^◌, suc, [], ◌∷◌, ◌++◌, length, map, IfOk};
-ghost use Rattle.java_tree.specs.KeptPlaces.{kept, base_places, expr_places};
+ghost use Rattle.java_tree.specs.KeptPlaces.{Places, kept, base_places, expr_places};
 ghost use Rattle.java_tree.specs.Operators.{assignment_level};
 ghost use Rattle.java_tree.specs.View.{base_of, expr_of};
 ghost use Rattle.java_parser_grammar.specs.TypeReading.{made_base_at};
@@ -9,6 +9,7 @@ ghost use Rattle.java_parser_grammar.specs.ExpressionReading.{new_object_with, n
 ghost use Rattle.java_parser_types.specs.Tokens.{spelled};
 ghost use Rattle.java_parser_types.specs.Finishing.{finished};
 ghost use Rattle.java_parser_types.specs.Endings.{lengths_end};
+ghost use Rattle.java_parser_types.specs.LedPlaces.{Leads};
 ghost use Rattle.java_parser_types.specs.ReadAnswer.{Gives};
 
 use super::arguments::call_arguments;
@@ -16,8 +17,10 @@ use super::expressions::read_expression;
 use super::initialisers::read_array;
 use super::lists::{length_behind, lengths_end};
 use super::nested::{NestedExpression, NestedExpressions, push_tree};
-use super::operands::{array_of_items, is_named, new_base, object};
+use super::operands::{array_of_items, is_named, new_base, object, object_with_body};
 use java_lexer::Token;
+use java_parser_lookahead::lookahead::begins_with;
+use java_parser_types::brackets::braces_tokens;
 use java_parser_types::error::ReadError;
 use java_parser_types::look::{after_brackets, after_sign, brackets, sign};
 use java_parser_types::made_types::has_diamond;
@@ -38,7 +41,7 @@ pub fn creation(
     requires room { suc (suc limit) < 2 ^ 32 }
     ensures gives { Gives (λ x. (expr_of x.0.tree.value, map spelled x.1.now)) result (new_with (read_at limit)
         (made_base_at limit) (array_at limit) (map spelled tokens.now)) }
-    ensures places { IfOk result (λ x. expr_places x.0.tree.value (kept x.1.now) ≡ place ∷ kept tokens.now) }
+    ensures places { IfOk result (λ x. Leads (expr_places x.0.tree.value) (place ∷ kept tokens.now) (kept x.1.now)) }
     ensures small { IfOk result (λ x. x.0.nesting ≤ suc limit) }
     ensures shorter { IfOk result (λ x. length x.1.now ≤ length tokens.now) }
 {
@@ -55,7 +58,7 @@ pub fn creation(
     }
 }
 
-/// An object of this class, behind its `(` (JLS 15.9).
+/// An object of this class, behind its `(`; the body of a class of its own may stand behind the `)` (JLS 15.9, 15.9.5).
 #[cycle(expressions)]
 #[tactic(auto, unfolding(java_parser_grammar::specs::ExpressionReading::new_object_with))]
 fn new_object(
@@ -70,8 +73,8 @@ fn new_object(
     requires base { base.value.nesting < limit }
     ensures gives { Gives (λ x. (expr_of x.0.tree.value, map spelled x.1.now)) result (new_object_with (read_at limit)
         (base_of base.value.tree) (map spelled tokens.now)) }
-    ensures places { IfOk result (λ x. expr_places x.0.tree.value (kept x.1.now) ≡ place ∷ (base_places base.value.tree
-        ++ kept tokens.now)) }
+    ensures places { IfOk result (λ x. Leads (expr_places x.0.tree.value) (place ∷ (base_places base.value.tree
+        ++ kept tokens.now)) (kept x.1.now)) }
     ensures small { IfOk result (λ x. x.0.nesting ≤ suc limit) }
     ensures shorter { IfOk result (λ x. length x.1.now ≤ length tokens.now) }
 {
@@ -79,7 +82,11 @@ fn new_object(
         return Err(ReadError::Unformed);
     }
     let (all, rest) = call_arguments(alloc, limit, tokens)?;
-    object(alloc, place, base, all, rest)
+    if !begins_with(rest, "{") {
+        return object(alloc, place, base, all, rest);
+    }
+    let (body, rest) = braces_tokens(alloc, rest)?;
+    object_with_body(alloc, place, base, all, body, rest)
 }
 
 /// An array of lengths (JLS 15.10.1).
@@ -97,8 +104,8 @@ fn new_array(
     requires base { base.value.nesting < limit }
     ensures gives { Gives (λ x. (expr_of x.0.tree.value, map spelled x.1.now)) result
         (new_array_with (read_at limit assignment_level) (base_of base.value.tree) (map spelled tokens.now)) }
-    ensures places { IfOk result (λ x. expr_places x.0.tree.value (kept x.1.now) ≡ place ∷ (base_places base.value.tree
-        ++ kept tokens.now)) }
+    ensures places { IfOk result (λ x. Leads (expr_places x.0.tree.value) (place ∷ (base_places base.value.tree
+        ++ kept tokens.now)) (kept x.1.now)) }
     ensures small { IfOk result (λ x. x.0.nesting ≤ suc limit) }
     ensures shorter { IfOk result (λ x. length x.1.now ≤ length tokens.now) }
 {
@@ -125,8 +132,8 @@ fn lengths(
     ensures gives { Gives (λ x. (expr_of x.0.tree.value, map spelled x.1.now)) result
         (finished (lengths_end (base_of base.value.tree)) (expr_of first.tree.value ∷ [])
         (lengths_with (read_at limit assignment_level) (length (map spelled tokens.now)) (map spelled tokens.now))) }
-    ensures places { IfOk result (λ x. expr_places x.0.tree.value (kept x.1.now) ≡ place ∷ (base_places base.value.tree
-        ++ expr_places first.tree.value (kept tokens.now))) }
+    ensures places { IfOk result (λ x. (start : Places) → Leads (expr_places first.tree.value) start (kept tokens.now)
+        → Leads (expr_places x.0.tree.value) (place ∷ (base_places base.value.tree ++ start)) (kept x.1.now)) }
     ensures small { IfOk result (λ x. x.0.nesting ≤ suc limit) }
     ensures shorter { IfOk result (λ x. length x.1.now ≤ length tokens.now) }
 {
@@ -164,8 +171,8 @@ fn new_items(
     requires more { suc (length tokens.now) < 2 ^ 32 }
     ensures gives { Gives (λ x. (expr_of x.0.tree.value, map spelled x.1.now)) result (new_items_with (array_at limit)
         (base_of base.value.tree) (map spelled tokens.now)) }
-    ensures places { IfOk result (λ x. expr_places x.0.tree.value (kept x.1.now) ≡ place ∷ (base_places base.value.tree
-        ++ kept tokens.now)) }
+    ensures places { IfOk result (λ x. Leads (expr_places x.0.tree.value) (place ∷ (base_places base.value.tree
+        ++ kept tokens.now)) (kept x.1.now)) }
     ensures small { IfOk result (λ x. x.0.nesting ≤ suc limit) }
     ensures shorter { IfOk result (λ x. length x.1.now ≤ length tokens.now) }
 {

@@ -3,24 +3,28 @@ ghost use Rattle.std.specs.Prelude.{◌≡◌, ◌<◌, ◌≤◌, ◌^◌, suc,
 ghost use Rattle.java_lexer.specs.declared.token.TokenKind.TheVariants as kind;
 ghost use Rattle.java_tree.specs.KeptPlaces.{kept, place_onto, expr_places};
 ghost use Rattle.java_tree.specs.View.{expr_of};
+ghost use Rattle.java_tree.specs.Words.{identifier};
 ghost use Rattle.java_parser_grammar.specs.TypeReading.{ty_at, made_base_at};
 ghost use Rattle.java_parser_grammar.specs.ExpressionReading.{name_with, parens_with, cast_with, prefix_with};
 ghost use Rattle.java_parser_grammar.specs.ExpressionReading.{operand_of};
 ghost use Rattle.java_parser_grammar.specs.ExpressionReading.{operand_with, read_at, array_at};
-ghost use Rattle.java_parser_expressions.specs.Closings.{lone_parens_with};
 ghost use Rattle.java_parser_types.specs.Tokens.{spelled};
+ghost use Rattle.java_parser_expressions.specs.Closings.{lone_parens_with};
+ghost use Rattle.java_parser_types.specs.LedPlaces.{Leads};
 ghost use Rattle.java_parser_types.specs.ReadAnswer.{Gives};
 
 use super::arguments::call_arguments;
-use super::class_names::{class, class_follows};
+use super::class_names::{class, class_follows, goes_typed};
 use super::creations::creation;
-use super::expressions::read_expression;
+use super::expressions::{read_expression, read_part};
+use super::lambdas::lambdas_behind;
 use super::nested::NestedExpression;
-use super::operands::{call, cast_to, cast_type, literal, paren, prefixed, this, variable};
+use super::operands::{call, cast_to, cast_types, literal, paren, prefixed, this, variable};
+use super::references::{plain_word, super_reference, typed_name};
 use java_lexer::{Token, TokenKind};
 use java_parser_lookahead::leads::{casts, is_prefix, is_text, opens_operand};
 use java_parser_types::error::ReadError;
-use java_parser_types::look::{after_sign, sign};
+use java_parser_types::look::{after_sign, is_plain_word, sign};
 use std::alloc::Global;
 
 /// An expression with no expression at its left.
@@ -34,8 +38,8 @@ pub fn operand(
     requires few { length tokens.now < 2 ^ 32 }
     requires room { suc (suc limit) < 2 ^ 32 }
     ensures gives { Gives (λ x. (expr_of x.0.tree.value, map spelled x.1.now)) result (operand_with (read_at limit)
-        (ty_at limit) (made_base_at limit) (array_at limit) (map spelled tokens.now)) }
-    ensures places { IfOk result (λ x. expr_places x.0.tree.value (kept x.1.now) ≡ kept tokens.now) }
+        limit (made_base_at limit) (array_at limit) (map spelled tokens.now)) }
+    ensures places { IfOk result (λ x. Leads (expr_places x.0.tree.value) (kept tokens.now) (kept x.1.now)) }
     ensures small { IfOk result (λ x. x.0.nesting ≤ suc limit) }
     ensures shorter { IfOk result (λ x. length x.1.now ≤ length tokens.now) }
 {
@@ -47,7 +51,7 @@ pub fn operand(
     }
     match token.kind {
         TokenKind::Keyword => word(alloc, limit, token, rest),
-        TokenKind::Name => name_operand(alloc, limit, token, rest),
+        TokenKind::Name => name_operand(alloc, limit, tokens, token, rest),
         TokenKind::Sign => sign_operand(alloc, limit, token, rest),
         TokenKind::Fixed | TokenKind::Number | TokenKind::Character | TokenKind::Text => {
             literal(alloc, token, rest)
@@ -66,10 +70,9 @@ fn word<'a>(
     requires few { length tokens.now < 2 ^ 32 }
     requires room { suc (suc limit) < 2 ^ 32 }
     ensures gives { Gives (λ x. (expr_of x.0.tree.value, map spelled x.1.now)) result (operand_of (read_at limit)
-        (ty_at limit) (made_base_at limit) (array_at limit) kind.Keyword token.now.text (map spelled tokens.now)) }
-    ensures places { IfOk result (λ x. expr_places x.0.tree.value (kept x.1.now)
-        ≡ place_onto kind.Keyword token.now.text
-        token.now.place (kept tokens.now)) }
+        limit (made_base_at limit) (array_at limit) kind.Keyword token.now.text (map spelled tokens.now)) }
+    ensures places { IfOk result (λ x. Leads (expr_places x.0.tree.value) (place_onto kind.Keyword token.now.text
+        token.now.place (kept tokens.now)) (kept x.1.now)) }
     ensures small { IfOk result (λ x. x.0.nesting ≤ suc limit) }
     ensures shorter { IfOk result (λ x. length x.1.now ≤ length tokens.now) }
 {
@@ -80,28 +83,43 @@ fn word<'a>(
     if is_text(text, "new") {
         return creation(alloc, limit, token.place, tokens);
     }
+    if is_text(text, "super") {
+        return super_reference(alloc, limit, tokens);
+    }
+    if is_plain_word(text.as_bytes()) || is_text(text, "void") {
+        return plain_word(alloc, limit, token, tokens);
+    }
     Err(ReadError::Unformed)
 }
 
-/// What begins with this name: a class, a call or the name (JLS 15.8.2, 15.12, 15.14.1).
+/// What begins with this name: a class or a `this` of it, a reference to a type, a call or the name (JLS 15.8.2,
+/// 15.8.4, 15.13, 15.12, 15.14.1).
 #[cycle(expressions)]
 #[tactic(auto, unfolding(java_parser_grammar::specs::ExpressionReading::name_with))]
 fn name_operand<'a>(
     alloc: Global,
     limit: u32,
+    whole: &'a [Token],
     token: &Token,
     tokens: &'a [Token],
 ) -> Result<(NestedExpression, &'a [Token]), ReadError>
+    requires all { length whole.now < 2 ^ 32 }
     requires few { length tokens.now < 2 ^ 32 }
     requires room { suc (suc limit) < 2 ^ 32 }
-    ensures gives { Gives (λ x. (expr_of x.0.tree.value, map spelled x.1.now)) result (name_with (read_at limit)
+    requires name { spelled token.now ≡ identifier token.now.text }
+    requires whole { whole.now ≡ token.now ∷ tokens.now }
+    ensures gives { Gives (λ x. (expr_of x.0.tree.value, map spelled x.1.now)) result (name_with (read_at limit) limit
         token.now.text (map spelled tokens.now)) }
-    ensures places { IfOk result (λ x. expr_places x.0.tree.value (kept x.1.now) ≡ token.now.place ∷ kept tokens.now) }
+    ensures places { IfOk result (λ x. Leads (expr_places x.0.tree.value) (token.now.place ∷ kept tokens.now)
+        (kept x.1.now)) }
     ensures small { IfOk result (λ x. x.0.nesting ≤ suc limit) }
     ensures shorter { IfOk result (λ x. length x.1.now ≤ length tokens.now) }
 {
     if class_follows(tokens) {
         return class(alloc, token, tokens);
+    }
+    if goes_typed(limit, tokens) {
+        return typed_name(alloc, limit, whole);
     }
     let Some(inside) = after_sign(tokens, "(") else {
         return variable(alloc, token, tokens);
@@ -121,8 +139,8 @@ fn sign_operand<'a>(
     requires few { length tokens.now < 2 ^ 32 }
     requires room { suc (suc limit) < 2 ^ 32 }
     ensures gives { Gives (λ x. (expr_of x.0.tree.value, map spelled x.1.now)) result (operand_of (read_at limit)
-        (ty_at limit) (made_base_at limit) (array_at limit) kind.Sign token.now.text (map spelled tokens.now)) }
-    ensures places { IfOk result (λ x. expr_places x.0.tree.value (kept x.1.now) ≡ kept tokens.now) }
+        limit (made_base_at limit) (array_at limit) kind.Sign token.now.text (map spelled tokens.now)) }
+    ensures places { IfOk result (λ x. Leads (expr_places x.0.tree.value) (kept tokens.now) (kept x.1.now)) }
     ensures small { IfOk result (λ x. x.0.nesting ≤ suc limit) }
     ensures shorter { IfOk result (λ x. length x.1.now ≤ length tokens.now) }
 {
@@ -153,7 +171,7 @@ fn prefix<'a>(
     requires room { suc (suc limit) < 2 ^ 32 }
     ensures gives { Gives (λ x. (expr_of x.0.tree.value, map spelled x.1.now)) result (prefix_with (read_at limit)
         operator.now (map spelled tokens.now)) }
-    ensures places { IfOk result (λ x. expr_places x.0.tree.value (kept x.1.now) ≡ kept tokens.now) }
+    ensures places { IfOk result (λ x. Leads (expr_places x.0.tree.value) (kept tokens.now) (kept x.1.now)) }
     ensures small { IfOk result (λ x. x.0.nesting ≤ suc limit) }
     ensures shorter { IfOk result (λ x. length x.1.now ≤ length tokens.now) }
 {
@@ -161,7 +179,7 @@ fn prefix<'a>(
     prefixed(alloc, operator, part, rest)
 }
 
-/// A cast, behind its `(` (JLS 15.16).
+/// A cast, behind its `(` (JLS 15.16). What is no primitive value may be a lambda.
 #[cycle(expressions)]
 fn cast(
     alloc: Global,
@@ -172,14 +190,15 @@ fn cast(
     requires room { suc (suc limit) < 2 ^ 32 }
     ensures gives { Gives (λ x. (expr_of x.0.tree.value, map spelled x.1.now)) result (cast_with (read_at limit)
         (ty_at limit) (map spelled tokens.now)) }
-    ensures places { IfOk result (λ x. expr_places x.0.tree.value (kept x.1.now) ≡ kept tokens.now) }
+    ensures places { IfOk result (λ x. Leads (expr_places x.0.tree.value) (kept tokens.now) (kept x.1.now)) }
     ensures small { IfOk result (λ x. x.0.nesting ≤ suc limit) }
     ensures shorter { IfOk result (λ x. length x.1.now ≤ length tokens.now) }
 {
-    let (kind, rest) = cast_type(alloc, limit, tokens)?;
+    let (types, rest) = cast_types(alloc, limit, tokens)?;
     let rest = sign(rest, ")")?;
-    let (part, rest) = read_expression(alloc, limit, 12, rest)?;
-    cast_to(alloc, kind, part, rest)
+    let lambdas = lambdas_behind(types.trees.as_slice());
+    let (part, rest) = read_part(alloc, limit, 12, lambdas, rest)?;
+    cast_to(alloc, types, part, rest)
 }
 
 /// Parentheses, behind the `(` (JLS 15.8.5).
@@ -193,7 +212,7 @@ fn parens(
     requires room { suc (suc limit) < 2 ^ 32 }
     ensures gives { Gives (λ x. (expr_of x.0.tree.value, map spelled x.1.now)) result (parens_with (read_at limit)
         (map spelled tokens.now)) }
-    ensures places { IfOk result (λ x. expr_places x.0.tree.value (kept x.1.now) ≡ kept tokens.now) }
+    ensures places { IfOk result (λ x. Leads (expr_places x.0.tree.value) (kept tokens.now) (kept x.1.now)) }
     ensures small { IfOk result (λ x. x.0.nesting ≤ suc limit) }
     ensures shorter { IfOk result (λ x. length x.1.now ≤ length tokens.now) }
 {
@@ -212,7 +231,7 @@ fn nested_parens(
     requires room { suc (suc limit) < 2 ^ 32 }
     ensures gives { Gives (λ x. (expr_of x.0.tree.value, map spelled x.1.now)) result (lone_parens_with (read_at limit)
         (map spelled tokens.now)) }
-    ensures places { IfOk result (λ x. expr_places x.0.tree.value (kept x.1.now) ≡ kept tokens.now) }
+    ensures places { IfOk result (λ x. Leads (expr_places x.0.tree.value) (kept tokens.now) (kept x.1.now)) }
     ensures small { IfOk result (λ x. x.0.nesting ≤ suc limit) }
     ensures shorter { IfOk result (λ x. length x.1.now ≤ length tokens.now) }
 {

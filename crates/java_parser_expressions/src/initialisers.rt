@@ -5,6 +5,7 @@ ghost use Rattle.java_tree.specs.View.{init_of, array_of};
 ghost use Rattle.java_parser_grammar.specs.ExpressionReading.{items_with, braces_with, array_at, init_at};
 ghost use Rattle.java_parser_types.specs.Tokens.{spelled};
 ghost use Rattle.java_parser_types.specs.Endings.{items_end};
+ghost use Rattle.java_parser_types.specs.LedPlaces.{Leads, LeadsOn};
 ghost use Rattle.java_parser_types.specs.ReadAnswer.{Gives};
 
 use super::expressions::read_expression;
@@ -27,7 +28,7 @@ pub fn read_array(
     requires room { suc (suc limit) < 2 ^ 32 }
     ensures gives { Gives (λ x. (array_of x.0.tree, map spelled x.1.now)) result
         (array_at limit (map spelled tokens.now)) }
-    ensures places { IfOk result (λ x. array_places x.0.tree (kept x.1.now) ≡ kept tokens.now) }
+    ensures places { IfOk result (λ x. Leads (array_places x.0.tree) (kept tokens.now) (kept x.1.now)) }
     ensures small { IfOk result (λ x. x.0.nesting ≤ limit) }
     ensures shorter { IfOk result (λ x. length x.1.now ≤ length tokens.now) }
 {
@@ -45,7 +46,7 @@ fn braces(alloc: Global, limit: u32, tokens: &[Token]) -> Result<(NestedArray, &
     requires room { suc (suc limit) < 2 ^ 32 }
     ensures gives { Gives (λ x. (array_of x.0.tree, map spelled x.1.now)) result (braces_with (init_at limit)
         (map spelled tokens.now)) }
-    ensures places { IfOk result (λ x. array_places x.0.tree (kept x.1.now) ≡ kept tokens.now) }
+    ensures places { IfOk result (λ x. Leads (array_places x.0.tree) (kept tokens.now) (kept x.1.now)) }
     ensures small { IfOk result (λ x. x.0.nesting ≤ suc limit) }
     ensures shorter { IfOk result (λ x. length x.1.now ≤ length tokens.now) }
 {
@@ -71,8 +72,8 @@ fn items(
     ensures gives { Gives (λ x. (array_of x.0.tree, map spelled x.1.now)) result (items_end
         (init_of first.tree.value ∷ [])
         (items_with (init_at limit) (length (map spelled tokens.now)) (map spelled tokens.now))) }
-    ensures places { IfOk result (λ x. array_places x.0.tree (kept x.1.now) ≡ init_places first.tree.value
-        (kept tokens.now)) }
+    ensures places { IfOk result (λ x. LeadsOn (init_places first.tree.value) (array_places x.0.tree)
+        (kept tokens.now) (kept x.1.now)) }
     ensures small { IfOk result (λ x. x.0.nesting ≤ suc limit) }
     ensures shorter { IfOk result (λ x. length x.1.now ≤ length tokens.now) }
 {
@@ -103,7 +104,7 @@ pub fn read_initialiser(
     requires room { suc (suc limit) < 2 ^ 32 }
     ensures gives { Gives (λ x. (init_of x.0.tree.value, map spelled x.1.now)) result
         (init_at limit (map spelled tokens.now)) }
-    ensures places { IfOk result (λ x. init_places x.0.tree.value (kept x.1.now) ≡ kept tokens.now) }
+    ensures places { IfOk result (λ x. Leads (init_places x.0.tree.value) (kept tokens.now) (kept x.1.now)) }
     ensures small { IfOk result (λ x. x.0.nesting ≤ limit) }
     ensures shorter { IfOk result (λ x. length x.1.now ≤ length tokens.now) }
 {

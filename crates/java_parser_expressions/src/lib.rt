@@ -11,11 +11,13 @@ mod creations;
 pub mod expressions;
 mod first_operand;
 pub mod initialisers;
+mod lambdas;
 pub mod laws;
 mod lists;
 pub mod nested;
 mod operands;
 mod progress;
+mod references;
 mod turns;
 mod whole;
 

@@ -1,8 +1,8 @@
 //! Lists in expressions, at their end: arguments, lengths and items of arrays.
-ghost use Rattle.std.specs.Prelude.{◌≡◌, ◌<◌, ◌≤◌, ◌^◌, suc, max, false, [], ◌∷◌, ◌++◌, None, MatchOption};
+ghost use Rattle.std.specs.Prelude.{◌≡◌, ◌<◌, ◌≤◌, ◌^◌, suc, max, false, [], ◌∷◌, Some, None, MatchOption};
 ghost use Rattle.std.specs.Prelude.{length, map, IfSome, IfOk};
-ghost use Rattle.java_tree.specs.KeptPlaces.{Places, kept, each_puts, base_places, expr_places, init_places};
-ghost use Rattle.java_tree.specs.KeptPlaces.{array_places};
+ghost use Rattle.java_tree.specs.KeptPlaces.{Marks, kept, each_puts, some_onto, base_places, expr_places};
+ghost use Rattle.java_tree.specs.KeptPlaces.{init_places, array_places};
 ghost use Rattle.java_tree.specs.Nesting.{exprs_nesting, inits_nesting};
 ghost use Rattle.java_tree.specs.Trees.{Braces, Value, Items, no_init, pack_exprs, pack_inits};
 ghost use Rattle.java_tree.specs.View.{ty_of, base_of, expr_of, init_of, array_of};
@@ -13,12 +13,12 @@ ghost use Rattle.java_parser_expressions.specs.Closings.{as_read, items_closed};
 ghost use Rattle.java_parser_types.specs.ReadAnswer.{Gives};
 
 use super::nested::{NestedArray, NestedExpression, NestedExpressions, NestedInitialiser};
-use super::operands::element;
+use super::operands::{created, element};
 use java_lexer::Token;
 use java_parser_types::error::ReadError;
 use java_parser_types::look::{after_brackets, after_sign, brackets, sign};
 use java_parser_types::nested::NestedBase;
-use java_tree::{Apart, ArrayTree, Expression, Initialiser};
+use java_tree::{ArrayTree, Expression, Initialiser, Made};
 use racer_base::Place;
 use std::alloc::Global;
 
@@ -31,8 +31,9 @@ pub fn call_end(
     requires measured { nesting ≡ exprs_nesting (pack_exprs (map expr_of trees.items)) }
     ensures gives { Gives (λ x. (map expr_of x.0.trees.items, map spelled x.1.now)) result
         (call_end (map expr_of trees.items, map spelled tokens.now)) }
-    ensures places { IfOk result (λ x. each_puts (map expr_places x.0.trees.items) (kept x.1.now) ≡ each_puts
-        (map expr_places trees.items) (kept tokens.now)) }
+    ensures places { IfOk result (λ x. (marks : Marks) → each_puts (map expr_places x.0.trees.items) marks ≡ each_puts
+        (map expr_places trees.items) marks) }
+    ensures behind { IfOk result (λ x. kept x.1.now ≡ kept tokens.now) }
     ensures small { IfOk result (λ x. x.0.nesting ≡ nesting) }
     ensures shorter { IfOk result (λ x. length x.1.now ≤ length tokens.now) }
 {
@@ -43,7 +44,7 @@ pub fn call_end(
 /// No arguments.
 pub fn no_arguments(alloc: Global) -> NestedExpressions
     ensures gives { map expr_of result.trees.items ≡ [] }
-    ensures places { (rest : Places) → each_puts (map expr_places result.trees.items) rest ≡ rest }
+    ensures places { (rest : Marks) → each_puts (map expr_places result.trees.items) rest ≡ rest }
     ensures small { result.nesting ≡ 0 }
 {
     let trees = Vec::new(alloc);
@@ -77,17 +78,17 @@ pub fn lengths_end(
     ensures gives { Gives (λ x. (expr_of x.0.tree.value, map spelled x.1.now)) result (lengths_end
         (base_of base.value.tree)
         (map expr_of lengths.trees.items, map spelled tokens.now)) }
-    ensures places { IfOk result (λ x. expr_places x.0.tree.value (kept x.1.now) ≡ place ∷ (base_places base.value.tree
-        ++ each_puts (map expr_places lengths.trees.items) (kept tokens.now))) }
+    ensures places { IfOk result (λ x. (marks : Marks) → expr_places x.0.tree.value marks ≡ Some place ∷ some_onto
+        (base_places base.value.tree) (each_puts (map expr_places lengths.trees.items) marks)) }
+    ensures behind { IfOk result (λ x. kept x.1.now ≡ kept tokens.now) }
     ensures small { IfOk result (λ x. x.0.nesting ≡ suc (max (suc base.value.nesting) lengths.nesting)) }
     ensures shorter { IfOk result (λ x. length x.1.now ≤ length tokens.now) }
 {
     let kind = element(base);
     let nesting = 1 + kind.nesting.max(lengths.nesting);
     let (arrays, rest) = brackets(tokens);
-    let kind = Apart::new(alloc, kind.tree)?;
-    let tree = Expression::NewArray(place, kind, lengths.trees, arrays);
-    NestedExpression::before(alloc, tree, nesting, rest)
+    let made = Made::Array(lengths.trees, arrays);
+    created(alloc, place, kind.tree, made, nesting, rest)
 }
 
 /// An array initialiser of these items (JLS 10.6).
@@ -95,7 +96,7 @@ fn braced(items: Vec<Initialiser>, nesting: u32, last_comma: bool) -> NestedArra
     requires measured { nesting ≡ inits_nesting (pack_inits (map init_of items.items)) }
     requires room { suc nesting < 2 ^ 32 }
     ensures gives { array_of result.tree ≡ Braces (pack_inits (map init_of items.items)) last_comma }
-    ensures places { (rest : Places) → array_places result.tree rest ≡ each_puts (map init_places items.items) rest }
+    ensures places { (rest : Marks) → array_places result.tree rest ≡ each_puts (map init_places items.items) rest }
     ensures small { result.nesting ≡ suc nesting }
 {
     let tree = ArrayTree { items, last_comma };
@@ -106,7 +107,7 @@ fn braced(items: Vec<Initialiser>, nesting: u32, last_comma: bool) -> NestedArra
 /// No items.
 pub fn no_items(alloc: Global) -> NestedArray
     ensures gives { array_of result.tree ≡ Braces no_init false }
-    ensures places { (rest : Places) → array_places result.tree rest ≡ rest }
+    ensures places { (rest : Marks) → array_places result.tree rest ≡ rest }
     ensures small { result.nesting ≡ 1 }
 {
     braced(Vec::new(alloc), 0, false)
@@ -148,8 +149,9 @@ pub fn items_end(
     requires room { suc nesting < 2 ^ 32 }
     ensures gives { Gives (λ x. (array_of x.0.tree, map spelled x.1.now)) result (items_end (map init_of items.items)
         (items_close (map spelled tokens.now))) }
-    ensures places { IfOk result (λ x. array_places x.0.tree (kept x.1.now) ≡ each_puts (map init_places items.items)
-        (kept tokens.now)) }
+    ensures places { IfOk result (λ x. (marks : Marks) → array_places x.0.tree marks ≡ each_puts (map init_places
+        items.items) marks) }
+    ensures behind { IfOk result (λ x. kept x.1.now ≡ kept tokens.now) }
     ensures small { IfOk result (λ x. x.0.nesting ≡ suc nesting) }
     ensures shorter { IfOk result (λ x. length x.1.now ≤ length tokens.now) }
 {
@@ -166,8 +168,9 @@ pub fn items_value(
 ) -> Result<(NestedInitialiser, &[Token]), ReadError>
     ensures gives { Gives (λ x. (init_of x.0.tree.value, map spelled x.1.now)) result (as_read
         (Items (array_of items.tree)) (map spelled tokens.now)) }
-    ensures places { IfOk result (λ x. init_places x.0.tree.value (kept x.1.now) ≡ array_places items.tree
-        (kept tokens.now)) }
+    ensures places { IfOk result (λ x. (marks : Marks) → init_places x.0.tree.value marks ≡ array_places items.tree
+        marks) }
+    ensures behind { IfOk result (λ x. kept x.1.now ≡ kept tokens.now) }
     ensures small { IfOk result (λ x. x.0.nesting ≡ items.nesting) }
     ensures shorter { IfOk result (λ x. length x.1.now ≤ length tokens.now) }
 {
@@ -184,8 +187,9 @@ pub fn expression_value(
 ) -> Result<(NestedInitialiser, &[Token]), ReadError>
     ensures gives { Gives (λ x. (init_of x.0.tree.value, map spelled x.1.now)) result (as_read
         (Value (expr_of value.tree.value)) (map spelled tokens.now)) }
-    ensures places { IfOk result (λ x. init_places x.0.tree.value (kept x.1.now) ≡ expr_places value.tree.value
-        (kept tokens.now)) }
+    ensures places { IfOk result (λ x. (marks : Marks) → init_places x.0.tree.value marks ≡ expr_places
+        value.tree.value marks) }
+    ensures behind { IfOk result (λ x. kept x.1.now ≡ kept tokens.now) }
     ensures small { IfOk result (λ x. x.0.nesting ≡ value.nesting) }
     ensures shorter { IfOk result (λ x. length x.1.now ≤ length tokens.now) }
 {

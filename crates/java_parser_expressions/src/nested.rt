@@ -1,10 +1,9 @@
 //! Trees with their nesting.
 ghost use Rattle.std.specs.Prelude.{◌≡◌, ◌≤◌, ◌++◌, ◌∷◌, [], Some, length, map, IfOk, IfErr, OnErr};
-ghost use Rattle.java_tree.specs.KeptPlaces.{kept, expr_places, init_places};
-ghost use Rattle.java_tree.specs.Nesting.{ty_nesting, base_nesting, part_nesting, angled_nesting, argument_nesting};
+ghost use Rattle.java_tree.specs.KeptPlaces.{Marks, kept, expr_places, init_places};
 ghost use Rattle.java_tree.specs.Nesting.{expr_nesting, exprs_nesting, array_nesting, init_nesting};
 ghost use Rattle.java_tree.specs.Trees.{pack_exprs};
-ghost use Rattle.java_tree.specs.View.{ty_of, base_of, part_of, angled_of, argument_of, expr_of, array_of, init_of};
+ghost use Rattle.java_tree.specs.View.{expr_of, array_of, init_of};
 ghost use Rattle.java_parser_types.specs.declared.error.ReadError.TheVariants.{Memory};
 ghost use Rattle.java_parser_types.specs.ReadAnswer.{Gives};
 ghost use Rattle.java_parser_types.specs.Tokens.{spelled};
@@ -12,9 +11,8 @@ ghost use Rattle.java_parser_expressions.specs.Closings.{as_read};
 
 use java_lexer::Token;
 use java_parser_types::error::ReadError;
-use java_tree::{
-    ArrayTree, BaseType, Expression, Initialiser, TypeArgument, TypeArguments, TypePart, TypeTree,
-};
+use java_parser_types::nested::NestedExact;
+use java_tree::{ArrayTree, Expression, Ident, Initialiser};
 use std::alloc::Global;
 
 #[derive(Drop)]
@@ -45,6 +43,13 @@ pub struct NestedInitialiser {
     ghost measured: { nesting ≡ init_nesting (init_of tree.value) },
 }
 
+/// What stands behind the `::` of a method reference: no name where `new` does (JLS 15.13).
+#[derive(Drop)]
+pub struct NestedReferred {
+    pub types: NestedExact,
+    pub name: Option<Ident>,
+}
+
 impl NestedExpression {
     /// This tree, in memory of its own.
     pub fn new(alloc: Global, tree: Expression, nesting: u32) -> Result<NestedExpression, ReadError>
@@ -66,8 +71,9 @@ impl NestedExpression {
         requires measured { nesting ≡ expr_nesting (expr_of tree) }
         ensures gives { Gives (λ x. (expr_of x.0.tree.value, map spelled x.1.now)) result (as_read
             (expr_of tree) (map spelled tokens.now)) }
-        ensures places { IfOk result (λ x. expr_places x.0.tree.value (kept x.1.now) ≡ expr_places tree
-            (kept tokens.now)) }
+        ensures places { IfOk result (λ x. (marks : Marks) → expr_places x.0.tree.value marks ≡ expr_places tree
+            marks) }
+        ensures behind { IfOk result (λ x. kept x.1.now ≡ kept tokens.now) }
         ensures small { IfOk result (λ x. x.0.nesting ≡ nesting) }
         ensures shorter { IfOk result (λ x. length x.1.now ≤ length tokens.now) }
     {
@@ -96,8 +102,9 @@ impl NestedInitialiser {
         requires measured { nesting ≡ init_nesting (init_of tree) }
         ensures gives { Gives (λ x. (init_of x.0.tree.value, map spelled x.1.now)) result (as_read
             (init_of tree) (map spelled tokens.now)) }
-        ensures places { IfOk result (λ x. init_places x.0.tree.value (kept x.1.now) ≡ init_places tree
-            (kept tokens.now)) }
+        ensures places { IfOk result (λ x. (marks : Marks) → init_places x.0.tree.value marks ≡ init_places tree
+            marks) }
+        ensures behind { IfOk result (λ x. kept x.1.now ≡ kept tokens.now) }
         ensures small { IfOk result (λ x. x.0.nesting ≡ nesting) }
         ensures shorter { IfOk result (λ x. length x.1.now ≤ length tokens.now) }
     {

@@ -3,9 +3,10 @@ ghost use Rattle.std.specs.Prelude.{◌≡◌, ◌<◌, ◌≤◌, ◌^◌, suc,
 ghost use Rattle.java_parser_types.specs.declared.error.ReadError.TheVariants.{Unformed};
 ghost use Rattle.java_tree.specs.Trees.{Ty, Init, Method};
 ghost use Rattle.java_tree.specs.Spelling.{ty_onto, init_onto, spelling};
-ghost use Rattle.java_tree.specs.Formed.{FormedTy, FormedInit, FormedMethod};
+ghost use Rattle.java_tree.specs.FormedMethods.{FormedMethod};
+ghost use Rattle.java_tree.specs.Formed.{FormedTy, FormedInit};
 ghost use Rattle.java_tree.specs.Nesting.{ty_nesting, init_nesting, method_nesting};
-ghost use Rattle.java_tree.specs.KeptPlaces.{kept, init_places};
+ghost use Rattle.java_tree.specs.KeptPlaces.{AreAt, kept, init_places};
 ghost use Rattle.java_tree.specs.View.{ty_of, init_of, method_of};
 ghost use Rattle.java_parser_grammar.specs.TypeReading.{ty_at};
 ghost use Rattle.java_parser_grammar.specs.ExpressionReading.{init_at};
@@ -24,7 +25,7 @@ fn whole_initialiser(alloc: Global, limit: u32, tokens: &[Token]) -> Result<Init
     requires few { length tokens.now < 2 ^ 32 }
     requires room { suc (suc limit) < 2 ^ 32 }
     ensures gives { Gives init_of result (all_of (init_at limit (map spelled tokens.now))) }
-    ensures places { IfOk result (λ tree. init_places tree [] ≡ kept tokens.now) }
+    ensures places { IfOk result (λ tree. AreAt (init_places tree []) (kept tokens.now)) }
 {
     let (value, rest) = initialisers::read_initialiser(alloc, limit, tokens)?;
     if !rest.is_empty() {
@@ -43,7 +44,7 @@ pub fn read_initialiser(
     requires room { suc (suc limit) < 2 ^ 32 }
     ensures formed { IfOk result (λ tree. FormedInit (init_of tree)) }
     ensures spelled { IfOk result (λ tree. init_onto (init_of tree) [] ≡ map spelled tokens.now) }
-    ensures places { IfOk result (λ tree. init_places tree [] ≡ kept tokens.now) }
+    ensures places { IfOk result (λ tree. AreAt (init_places tree []) (kept tokens.now)) }
     ensures small { IfOk result (λ tree. init_nesting (init_of tree) ≤ limit) }
     ensures only { IfOk result (λ tree. (other : Init) → FormedInit other
         → init_onto other [] ≡ map spelled tokens.now → other ≡ init_of tree) }

@@ -1,45 +1,35 @@
 -- Annotations and modifiers are read.
 use Rattle.std.proofs.Common.{◌≡◌, ℕ, zero, suc, ◌+◌, ◌≤◌, ◌<◌, false, List, [], ◌∷◌, ◌++◌, length, length-append}
-use Rattle.std.proofs.Common.{Option, Some, None, IsTrue, codes, refl, arith}
-use Rattle.std.proofs.lemmas.Bool.{and_parts}
+use Rattle.std.proofs.Common.{Bool, true, Option, Some, None, IsTrue, codes, refl, sym, ap, arith}
+use Rattle.std.proofs.lemmas.Bool.{false≢true, and_parts}
+use Rattle.std.specs.Prelude.{bytes_eq}
+use Rattle.std.specs.Cmp.Lexicographic.{bytes_decides}
 use Rattle.java_tree.specs.declared.words.Spelled.{Spelled}
 use Rattle.java_tree.specs.Words.{keyword, identifier}
-use Rattle.java_tree.specs.Brackets.{is_sign, awaited_behind, is_some_and, closes, are_parentheses_or_none}
+use Rattle.java_tree.specs.Brackets.{is_sign, closes, are_parentheses_or_none}
 use Rattle.java_tree.specs.Trees.{Ty, Typed, Plain, Named, no_part, part_then, Bare, Generic, Annotation, Modifier}
 use Rattle.java_tree.specs.Trees.{Word, Annotated}
 use Rattle.java_tree.specs.Spelling.{behind_points, names_onto, brackets_onto, ty_onto, annotation_onto}
 use Rattle.java_tree.specs.Spelling.{annotations_onto, modifiers_onto}
-use Rattle.java_tree.specs.Formed.{Each, has_some, FormedTy, is_plain_word, FormedAnnotation, FormedModifier}
-use Rattle.java_parser_grammar.specs.Taking.{after_name, ◌>>=◌, after_sign}
-use Rattle.java_parser_grammar.specs.Lookahead.{begins_with, after_modifier}
-use Rattle.java_parser_grammar.specs.MethodReading.{closed_at, arguments_at, names_at, annotation_at, annotations_at}
+use Rattle.java_tree.specs.FormedMethods.{FormedModifier}
+use Rattle.java_tree.specs.FormedModifiers.{Each, has_some, FormedAnnotation, FormedVariableModifier}
+use Rattle.java_tree.specs.FormedModifiers.{have_no_word, have_one_word, FormedVariableModifiers}
+use Rattle.java_tree.specs.Formed.{FormedTy, is_plain_word}
+use Rattle.java_parser_grammar.specs.Taking.{after_name, after_sign, after_keyword}
+use Rattle.java_parser_grammar.specs.Leads.{begins_with}
+use Rattle.java_parser_grammar.specs.Lookahead.{after_modifier}
+use Rattle.java_parser_grammar.specs.BalancedReading.{arguments_at, names_at, annotation_at, annotations_at}
+use Rattle.java_parser_grammar.specs.BalancedReading.{variable_modifiers_at, before_type_at}
 use Rattle.java_parser_grammar.specs.MethodReading.{modifiers_at}
 use Rattle.java_parser_grammar.proofs.Taken.{sign_is}
-use Rattle.java_parser_grammar.proofs.StatementFronts.{plain_cases}
+use Rattle.java_parser_grammar.proofs.StatementFronts.{plain_cases, starts_ty}
+use Rattle.java_parser_grammar.proofs.FoundTokens.{closed_found}
+use Rattle.java_parser_grammar.proofs.TypeFronts.{formed_longer}
 use Rattle.java_parser_grammar.proofs.Lengths.{names_longer}
 use Rattle.java_parser_grammar.proofs.CommaLoops.{points_end, points_turn}
 use Rattle.java_parser_grammar.specs.TypeReading.{points}
 
 -- ---- tokens in parentheses
-
--- what is read from the brackets that are awaited behind a token
-abbrev pub one_closed : Spelled → List Spelled → Option (List (List ℕ)) → Option (List Spelled × List Spelled)
-one_closed t ts o = o >>= λ awaited. closed_at awaited ts >>= λ closed. Some (t ∷ closed.0, closed.1)
-
-one_closed_found : (o : Option (List (List ℕ))) (t : Spelled) (ts rest : List Spelled) → ((awaited : List (List ℕ))
-    → IsTrue (closes awaited ts) → closed_at awaited (ts ++ rest) ≡ Some (ts, rest))
-    → IsTrue (is_some_and o (λ awaited. closes awaited ts)) → one_closed t (ts ++ rest) o ≡ Some (t ∷ ts, rest)
-one_closed_found None t ts rest others h = absurd cc
-one_closed_found (Some awaited) t ts rest others h = rw (others awaited h) refl
-
-closed_found : (ts : List Spelled) (awaited : List (List ℕ)) (rest : List Spelled) → IsTrue (closes awaited ts)
-    → closed_at awaited (ts ++ rest) ≡ Some (ts, rest)
-unfolding closed_at
-closed_found [] [] rest h = refl
-closed_found [] (inner ∷ outer) rest h = absurd cc
-closed_found (t ∷ ts) [] rest h = absurd cc
-closed_found (t ∷ ts) (inner ∷ outer) rest h =
-    one_closed_found (awaited_behind t inner outer) t ts rest (λ awaited. closed_found ts awaited rest) h
 
 arguments_found : (args rest : List Spelled) → IsTrue (are_parentheses_or_none args) → begins_with (codes "(")
     rest ≡ false → arguments_at (args ++ rest) ≡ Some (args, rest)
@@ -47,7 +37,7 @@ arguments_found [] rest h ends = rw ends refl
 arguments_found (t ∷ ts) rest h ends =
     let here = (and_parts (is_sign (codes "(") t) (closes (codes ")" ∷ []) ts) h).0 in
     let inside = (and_parts (is_sign (codes "(") t) (closes (codes ")" ∷ []) ts) h).1 in
-    rw (here, closed_found ts (codes ")" ∷ []) rest inside) refl
+    rw (here, closed_found ts (codes ")" ∷ []) inside rest) refl
 
 -- no point stands before arguments
 no_point_found : (args rest : List Spelled) → IsTrue (are_parentheses_or_none args) → after_sign (codes ".")
@@ -176,3 +166,54 @@ ends_type (Typed (Named (part_then (Bare x) ps)) arrays) rest f =
     record { annotation = record { no_point = refl; no_open = refl }; no_at = refl; no_word = refl }
 ends_type (Typed (Named (part_then (Generic x a) ps)) arrays) rest f =
     record { annotation = record { no_point = refl; no_open = refl }; no_at = refl; no_word = refl }
+
+-- ---- before the type of a variable
+
+-- `final` stands at most once, or not at all
+abbrev pub words_in : (may_be_final : Bool) → List Modifier → Bool
+words_in true ms = have_one_word ms
+words_in false ms = have_no_word ms
+
+-- tokens that do not go on with what stands before the type of a variable
+pub record EndsHead (rest : List Spelled) : Type 0 where
+  pub annotation : EndsAnnotation rest
+  pub no_at : after_sign (codes "@") rest ≡ None
+  pub no_final : after_keyword (codes "final") rest ≡ None
+
+-- a word there is `final`
+abbrev word_read : List Modifier → List Spelled → (text : List ℕ) → Option (List Modifier × List Spelled)
+word_read ms rest text = Some (Word text ∷ ms, rest)
+
+final_word : (text : List ℕ) (ms : List Modifier) (rest : List Spelled) → bytes_eq text (codes "final") ≡ true
+    → word_read ms rest (codes "final") ≡ word_read ms rest text
+final_word text ms rest h = ap (word_read ms rest) (sym ((bytes_decides text (codes "final")).0 h))
+
+variable_modifiers_found : (may : Bool) (ms : List Modifier) (m : ℕ) (rest : List Spelled)
+    → Each FormedVariableModifier ms → IsTrue (words_in may ms) → EndsHead rest → length ms < m
+    → variable_modifiers_at may m (modifiers_onto ms rest) ≡ Some (ms, rest)
+unfolding variable_modifiers_at
+variable_modifiers_found may ms zero rest f w e room = absurd (omega arith)
+variable_modifiers_found true [] (suc m) rest f w e room = rw (e.no_at, e.no_final) refl
+variable_modifiers_found false [] (suc m) rest f w e room = rw e.no_at refl
+variable_modifiers_found true (Word text ∷ ms) (suc m) rest f w e room =
+    rw (f.0, variable_modifiers_found false ms m rest f.1 w e (omega arith)) (final_word text ms rest f.0)
+variable_modifiers_found false (Word text ∷ ms) (suc m) rest f w e room = absurd (false≢true w)
+variable_modifiers_found true (Annotated n ∷ ms) (suc m) rest f w e room =
+    rw (
+      annotation_found n (modifiers_onto ms rest) f.0 (modifiers_end ms rest e.annotation),
+      variable_modifiers_found true ms m rest f.1 w e (omega arith),
+    ) refl
+variable_modifiers_found false (Annotated n ∷ ms) (suc m) rest f w e room =
+    rw (
+      annotation_found n (modifiers_onto ms rest) f.0 (modifiers_end ms rest e.annotation),
+      variable_modifiers_found false ms m rest f.1 w e (omega arith),
+    ) refl
+
+pub before_type_found : (ms : List Modifier) (t : Ty) (rest : List Spelled) → FormedVariableModifiers ms → FormedTy t
+    → before_type_at (modifiers_onto ms (ty_onto t rest)) ≡ Some (ms, ty_onto t rest)
+before_type_found ms t rest f g =
+    let typed = ty_onto t rest in
+    let e = ends_type t rest g in
+    variable_modifiers_found true ms (length (modifiers_onto ms typed)) typed f.0 f.1
+    (record { annotation = e.annotation; no_at = e.no_at; no_final = (starts_ty t rest g).no_final })
+    (omega (arith, modifiers_fit ms typed, formed_longer t g rest))

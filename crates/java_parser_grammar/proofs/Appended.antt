@@ -1,6 +1,6 @@
 -- What a tree spells before tokens it also spells before these and more.
 use Rattle.std.proofs.Common.{◌≡◌, ℕ, zero, suc, Bool, true, false, List, [], ◌∷◌, ◌++◌, refl, ap, sym, ◌∙◌, codes}
-use Rattle.std.proofs.Common.{append_assoc}
+use Rattle.std.proofs.Common.{append_assoc, Option, Some, None}
 use Rattle.std.specs.Prelude.{bytes_eq, if◌then◌else◌}
 use Rattle.java_tree.specs.declared.words.Spelled.{Spelled}
 use Rattle.java_tree.specs.Words.{keyword, identifier, sign, sign_glued, word_of}
@@ -9,8 +9,10 @@ use Rattle.java_tree.specs.Trees.{Arguments, Angled, ArgumentList, no_argument, 
 use Rattle.java_tree.specs.Trees.{Extends, Super, Expr, Assign, Conditional, Binary, InstanceOf, Prefix, Cast}
 use Rattle.java_tree.specs.Trees.{Postfix, Literal, This, Name, Paren, Field, Index, Call, CallOn, ClassOf, New}
 use Rattle.java_tree.specs.Trees.{NewArray, NewItems, Exprs, no_expr, expr_then, Array, Braces, Inits, no_init}
-use Rattle.java_tree.specs.Trees.{init_then, Init, Value, Items, Annotation, Modifier, Word, Annotated}
-use Rattle.java_tree.specs.Spelling.{annotation_onto, modifiers_onto}
+use Rattle.java_tree.specs.Trees.{init_then, Init, Value, Items, Annotation, Modifier, Word, Annotated, NewBody}
+use Rattle.java_tree.specs.Trees.{Lambda, BlockLambda, Reference, TypeReference, SuperReference, PlainClass, ThisOf}
+use Rattle.java_tree.specs.Spelling.{annotation_onto, modifiers_onto, behind_sign, between_sign, maybe_angled_onto}
+use Rattle.java_tree.specs.Spelling.{referred_onto, tokens_onto}
 use Rattle.java_tree.specs.Spelling.{behind_points, names_onto, brackets_onto, ty_onto, base_onto, parts_onto}
 use Rattle.java_tree.specs.Spelling.{more_parts_onto, part_onto, angled_onto, arguments_onto, more_arguments_onto}
 use Rattle.java_tree.specs.Spelling.{argument_onto, operator_onto, last_comma_onto, expr_onto, exprs_onto}
@@ -129,6 +131,27 @@ mutual
   argument_append (Extends t) = λ r s. ap (λ l. sign (codes "?") ∷ keyword (codes "extends") ∷ l) (ty_append t r s)
   argument_append (Super t) = λ r s. ap (λ l. sign (codes "?") ∷ keyword (codes "super") ∷ l) (ty_append t r s)
 
+signs_append : (text : List ℕ) (ts : List Ty) → Appends (behind_sign text ts)
+signs_append text [] = λ r s. refl
+signs_append text (t ∷ ts) =
+    leads (sign text) (λ r. ty_onto t (behind_sign text ts r)) (joins (ty_onto t) (behind_sign text ts) (ty_append t)
+    (signs_append text ts))
+
+between_append : (text : List ℕ) (ts : List Ty) → Appends (between_sign text ts)
+between_append text [] = λ r s. refl
+between_append text (t ∷ ts) = joins (ty_onto t) (behind_sign text ts) (ty_append t) (signs_append text ts)
+
+maybe_angled_append : (types : Option Arguments) → Appends (maybe_angled_onto types)
+maybe_angled_append None = λ r s. refl
+maybe_angled_append (Some a) = angled_append a
+
+referred_append : (types : Option Arguments) (x : Option (List ℕ)) → Appends (referred_onto types x)
+referred_append types None = ends (maybe_angled_onto types) (keyword (codes "new")) (maybe_angled_append types)
+referred_append types (Some x) = ends (maybe_angled_onto types) (identifier x) (maybe_angled_append types)
+
+tokens_append : (ts : List Spelled) → Appends (tokens_onto ts)
+tokens_append ts r s = sym (append_assoc ts r s)
+
 -- ---- expressions
 
 abbrev call_onto : Exprs → List Spelled → List Spelled
@@ -156,10 +179,10 @@ mutual
       joins (expr_onto a) (λ r. keyword (codes "instanceof") ∷ ty_onto t r) (expr_append a) (leads (keyword (codes
       "instanceof")) (ty_onto t) (ty_append t))
   expr_append (Prefix op a) = leads (sign op) (expr_onto a) (expr_append a)
-  expr_append (Cast t a) =
-      leads (sign (codes "(")) (λ r. ty_onto t (sign (codes ")") ∷ expr_onto a r)) (joins (ty_onto t) (λ r. sign
-      (codes ")")
-      ∷ expr_onto a r) (ty_append t) (leads (sign (codes ")")) (expr_onto a) (expr_append a)))
+  expr_append (Cast ts a) =
+      leads (sign (codes "(")) (λ r. between_sign (codes "&") ts (sign (codes ")") ∷ expr_onto a r))
+      (joins (between_sign (codes "&") ts) (λ r. sign (codes ")") ∷ expr_onto a r) (between_append (codes "&") ts)
+      (leads (sign (codes ")")) (expr_onto a) (expr_append a)))
   expr_append (Postfix a op) = ends (expr_onto a) (sign op) (expr_append a)
   expr_append (Literal k text) = one (word_of k text)
   expr_append This = one (keyword (codes "this"))
@@ -173,10 +196,11 @@ mutual
       (leads (sign (codes "[")) (λ r. expr_onto i (sign (codes "]") ∷ r)) (ends (expr_onto i) (sign (codes "]"))
       (expr_append i)))
   expr_append (Call x all) = leads (identifier x) (call_onto all) (calls all (exprs_append all))
-  expr_append (CallOn a x all) =
-      joins (expr_onto a) (λ r. sign (codes ".") ∷ identifier x ∷ call_onto all r) (expr_append a)
-      (leads (sign (codes ".")) (λ r. identifier x ∷ call_onto all r) (leads (identifier x) (call_onto all)
-      (calls all (exprs_append all))))
+  expr_append (CallOn a types x all) =
+      joins (expr_onto a) (λ r. sign (codes ".") ∷ maybe_angled_onto types (identifier x ∷ call_onto all r))
+      (expr_append a) (leads (sign (codes ".")) (λ r. maybe_angled_onto types (identifier x ∷ call_onto all r))
+      (joins (maybe_angled_onto types) (λ r. identifier x ∷ call_onto all r) (maybe_angled_append types)
+      (leads (identifier x) (call_onto all) (calls all (exprs_append all)))))
   expr_append (ClassOf xs) = λ r s. names_append xs (sign (codes ".") ∷ keyword (codes "class") ∷ r) s
   expr_append (New t all) =
       leads (keyword (codes "new")) (λ r. ty_onto t (call_onto all r)) (joins (ty_onto t) (call_onto all) (ty_append t)
@@ -189,6 +213,27 @@ mutual
       leads (keyword (codes "new")) (λ r. ty_onto t (brackets_onto n (array_onto items r)))
       (joins (ty_onto t) (λ r. brackets_onto n (array_onto items r)) (ty_append t) (joins (brackets_onto n)
       (array_onto items) (brackets_append n) (array_append items)))
+  expr_append (NewBody t all body) =
+      leads (keyword (codes "new")) (λ r. ty_onto t (call_onto all (tokens_onto body r)))
+      (joins (ty_onto t) (λ r. call_onto all (tokens_onto body r)) (ty_append t) (joins (call_onto all)
+      (tokens_onto body) (calls all (exprs_append all)) (tokens_append body)))
+  expr_append (Lambda ps a) =
+      joins (tokens_onto ps) (λ r. sign (codes "->") ∷ expr_onto a r) (tokens_append ps) (leads (sign (codes "->"))
+      (expr_onto a) (expr_append a))
+  expr_append (BlockLambda ps block) =
+      joins (tokens_onto ps) (λ r. sign (codes "->") ∷ tokens_onto block r) (tokens_append ps)
+      (leads (sign (codes "->")) (tokens_onto block) (tokens_append block))
+  expr_append (Reference a types x) =
+      joins (expr_onto a) (λ r. sign (codes "::") ∷ referred_onto types x r) (expr_append a)
+      (leads (sign (codes "::")) (referred_onto types x) (referred_append types x))
+  expr_append (TypeReference t types x) =
+      joins (ty_onto t) (λ r. sign (codes "::") ∷ referred_onto types x r) (ty_append t)
+      (leads (sign (codes "::")) (referred_onto types x) (referred_append types x))
+  expr_append (SuperReference types x) =
+      leads (keyword (codes "super")) (λ r. sign (codes "::") ∷ referred_onto types x r)
+      (leads (sign (codes "::")) (referred_onto types x) (referred_append types x))
+  expr_append (PlainClass t) = λ r s. ty_append t (sign (codes ".") ∷ keyword (codes "class") ∷ r) s
+  expr_append (ThisOf xs) = λ r s. names_append xs (sign (codes ".") ∷ keyword (codes "this") ∷ r) s
 
   exprs_append : (es : Exprs) → Appends (exprs_onto es)
   exprs_append no_expr = λ r s. refl

@@ -1,5 +1,6 @@
 -- The parentheses in a spelling are balanced.
-use Rattle.std.proofs.Common.{◌≡◌, ◌∙◌, ℕ, zero, suc, Bool, true, false, List, [], ◌∷◌, refl, codes}
+use Rattle.std.proofs.Common.{◌≡◌, ◌∙◌, ℕ, zero, suc, Bool, true, false, List, [], ◌∷◌, Option, Some, None}
+use Rattle.std.proofs.Common.{refl, codes}
 use Rattle.std.proofs.lemmas.Bool.{false≢true}
 use Rattle.java_lexer.specs.declared.token.TokenKind.{TokenKind}
 use Rattle.java_lexer.specs.declared.token.TokenKind.TheVariants as kind
@@ -10,8 +11,10 @@ use Rattle.java_tree.specs.Trees.{Arguments, Angled, ArgumentList, no_argument, 
 use Rattle.java_tree.specs.Trees.{Extends, Super, Expr, Assign, Conditional, Binary, InstanceOf, Prefix, Cast}
 use Rattle.java_tree.specs.Trees.{Postfix, Literal, This, Name, Paren, Field, Index, Call, CallOn, ClassOf, New}
 use Rattle.java_tree.specs.Trees.{NewArray, NewItems, Exprs, no_expr, expr_then, Array, Braces, Inits, no_init}
-use Rattle.java_tree.specs.Trees.{init_then, Init, Value, Items}
+use Rattle.java_tree.specs.Trees.{init_then, Init, Value, Items, NewBody, Lambda, BlockLambda, Reference, TypeReference}
+use Rattle.java_tree.specs.Trees.{SuperReference, PlainClass, ThisOf}
 use Rattle.java_tree.specs.Spelling.{behind_points, names_onto, brackets_onto, last_comma_onto, ty_onto, base_onto}
+use Rattle.java_tree.specs.Spelling.{behind_sign, between_sign, maybe_angled_onto, referred_onto}
 use Rattle.java_tree.specs.Spelling.{parts_onto, more_parts_onto, part_onto, angled_onto, arguments_onto}
 use Rattle.java_tree.specs.Spelling.{more_arguments_onto, argument_onto, expr_onto, exprs_onto, more_exprs_onto}
 use Rattle.java_tree.specs.Spelling.{lengths_onto, array_onto, inits_onto, more_inits_onto, init_onto}
@@ -19,6 +22,7 @@ use Rattle.java_tree.specs.Formed.{is_literal, FormedExpr, FormedExprs, FormedAr
 use Rattle.java_parser_grammar.specs.Leads.{behind}
 use Rattle.java_parser_grammar.proofs.OperatorTexts.{assignment_balanced, prefix_balanced, step_balanced}
 use Rattle.java_parser_grammar.proofs.OperatorTexts.{binary_balanced}
+use Rattle.java_parser_grammar.proofs.BalancedTokens.{braces_balanced, parameters_balanced}
 
 -- ---- types
 
@@ -75,6 +79,29 @@ mutual
   argument_balanced (Extends t) d rest = ty_balanced t d rest
   argument_balanced (Super t) d rest = ty_balanced t d rest
 
+signs_balanced : (ts : List Ty) (d : ℕ) (rest : List Spelled) → behind d (behind_sign (codes "&") ts rest) ≡ behind d
+    rest
+unfolding behind
+signs_balanced [] d rest = refl
+signs_balanced (t ∷ ts) d rest = ty_balanced t d _ ∙ signs_balanced ts d rest
+
+-- the types of a cast
+pub between_balanced : (ts : List Ty) (d : ℕ) (rest : List Spelled) → behind d (between_sign (codes "&") ts rest)
+    ≡ behind d rest
+between_balanced [] d rest = refl
+between_balanced (t ∷ ts) d rest = ty_balanced t d _ ∙ signs_balanced ts d rest
+
+maybe_angled_balanced : (types : Option Arguments) (d : ℕ) (rest : List Spelled) → behind d (maybe_angled_onto types
+    rest) ≡ behind d rest
+maybe_angled_balanced None d rest = refl
+maybe_angled_balanced (Some a) d rest = angled_balanced a d rest
+
+referred_balanced : (types : Option Arguments) (x : Option (List ℕ)) (d : ℕ) (rest : List Spelled)
+    → behind d (referred_onto types x rest) ≡ behind d rest
+unfolding behind
+referred_balanced types None d rest = maybe_angled_balanced types d _
+referred_balanced types (Some x) d rest = maybe_angled_balanced types d _
+
 -- ---- expressions and array initialisers
 
 points_balanced : (xs : List (List ℕ)) (d : ℕ) (rest : List Spelled) → behind d (behind_points xs rest) ≡ behind d rest
@@ -110,7 +137,7 @@ mutual
       ∙ balanced b f.1 d rest
   balanced (InstanceOf a t) f d rest = balanced a f.0 d _ ∙ ty_balanced t d rest
   balanced (Prefix op a) f d rest = prefix_balanced op d (expr_onto a rest) f.1 ∙ balanced a f.0 d rest
-  balanced (Cast t a) f d rest = ty_balanced t (suc d) _ ∙ balanced a f.1 d rest
+  balanced (Cast ts a) f d rest = between_balanced ts (suc d) _ ∙ balanced a f.2 d rest
   balanced (Postfix a op) f d rest = balanced a f.0 d _ ∙ step_balanced op d rest f.1
   balanced (Literal k text) f d rest = literal_balanced k text d rest f
   balanced This f d rest = refl
@@ -119,12 +146,22 @@ mutual
   balanced (Field a x) f d rest = balanced a f.0 d _
   balanced (Index a i) f d rest = balanced a f.0 d _ ∙ balanced i f.1 d _
   balanced (Call x all) f d rest = exprs_balanced all f (suc d) _
-  balanced (CallOn a x all) f d rest = balanced a f.0 d _ ∙ exprs_balanced all f.1 (suc d) _
+  balanced (CallOn a types x all) f d rest =
+      balanced a f.0 d _ ∙ maybe_angled_balanced types d _ ∙ exprs_balanced all f.2 (suc d) _
   balanced (ClassOf xs) f d rest = names_balanced xs d _
   balanced (New t all) f d rest = ty_balanced t d _ ∙ exprs_balanced all f.1 (suc d) _
   balanced (NewArray t lengths n) f d rest = ty_balanced t d _ ∙ lengths_balanced lengths f.1 d _ ∙ brackets_balanced
       n d rest
   balanced (NewItems t n items) f d rest = ty_balanced t d _ ∙ brackets_balanced n d _ ∙ array_balanced items f.2 d rest
+  balanced (NewBody t all body) f d rest =
+      ty_balanced t d _ ∙ exprs_balanced all f.1 (suc d) _ ∙ braces_balanced body f.2 d rest
+  balanced (Lambda ps a) f d rest = parameters_balanced ps f.0 d _ ∙ balanced a f.1 d rest
+  balanced (BlockLambda ps block) f d rest = parameters_balanced ps f.0 d _ ∙ braces_balanced block f.1 d rest
+  balanced (Reference a types x) f d rest = balanced a f.0 d _ ∙ referred_balanced types x d rest
+  balanced (TypeReference t types x) f d rest = ty_balanced t d _ ∙ referred_balanced types x d rest
+  balanced (SuperReference types x) f d rest = referred_balanced types x d rest
+  balanced (PlainClass t) f d rest = ty_balanced t d _
+  balanced (ThisOf xs) f d rest = names_balanced xs d _
 
   exprs_balanced : (es : Exprs) → FormedExprs es → (d : ℕ) (rest : List Spelled) → behind d (exprs_onto es rest)
       ≡ behind d rest

@@ -10,7 +10,8 @@ use Rattle.java_tree.specs.Words.{sign, sign_glued, keyword, identifier}
 use Rattle.java_tree.specs.Brackets.{is_sign, is_sign_kind}
 use Rattle.java_tree.specs.Spelling.{brackets_onto}
 use Rattle.java_tree.specs.Formed.{is_plain_word}
-use Rattle.java_parser_grammar.specs.Taking.{◌>>=◌, match_option, is_keyword, is_keyword_kind, is_name_kind, after_sign}
+use Rattle.java_tree.specs.Brackets.{is_keyword, is_keyword_kind, is_name_kind}
+use Rattle.java_parser_grammar.specs.Taking.{◌>>=◌, match_option, after_sign}
 use Rattle.java_parser_grammar.specs.Taking.{after_keyword, after_name, after_angle, after_glued}
 use Rattle.java_parser_grammar.specs.TypeReading.{after_plain, after_brackets, brackets_at}
 use Rattle.java_parser_grammar.proofs.Taken.{sign_is}

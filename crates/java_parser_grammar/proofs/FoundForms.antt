@@ -1,19 +1,24 @@
 -- The forms of statements that are no rows are read, over a reader of the statements inside.
-use Rattle.std.proofs.Common.{◌≡◌, ℕ, zero, suc, ◌≤◌, ◌<◌, Bool, true, false, List, [], ◌∷◌, length, Option, Some}
-use Rattle.std.proofs.Common.{None, IsTrue, codes, refl, arith}
+use Rattle.std.proofs.Common.{◌≡◌, ℕ, zero, suc, ◌≤◌, ◌<◌, true, false, List, [], ◌∷◌, ◌++◌, length, Option}
+use Rattle.std.proofs.Common.{Some, None, IsTrue, codes, refl, arith}
 use Rattle.java_tree.specs.declared.words.Spelled.{Spelled}
 use Rattle.java_tree.specs.Words.{keyword, identifier, sign}
-use Rattle.java_tree.specs.Trees.{Ty, Expr, Exprs, no_expr, expr_then, Variable, Locals, Start, Declares, Runs}
-use Rattle.java_tree.specs.Trees.{Stmt, Local, Run, If, IfElse, For, ForEach, Labelled, Stmts, no_stmt, stmt_then}
+use Rattle.java_tree.specs.Trees.{Ty, Expr, Exprs, no_expr, expr_then, Modifier, Variable, Locals, Start, Declares}
+use Rattle.java_tree.specs.Trees.{Runs}
+use Rattle.java_tree.specs.Trees.{Stmt, Local, Run, If, IfElse, For, ForEach, Labelled, LocalClass, Stmts, no_stmt}
+use Rattle.java_tree.specs.Trees.{stmt_then}
 use Rattle.java_tree.specs.Trees.{pack_stmts}
-use Rattle.java_tree.specs.Spelling.{behind_commas, commas_onto, final_onto, ty_onto, expr_onto, exprs_onto}
+use Rattle.java_tree.specs.Spelling.{behind_commas, commas_onto, brackets_onto, modifiers_onto, ty_onto, expr_onto}
+use Rattle.java_tree.specs.Spelling.{exprs_onto}
 use Rattle.java_tree.specs.Spelling.{more_exprs_onto, maybe_expr_onto, maybe_init_onto, variable_onto, locals_onto}
 use Rattle.java_tree.specs.Spelling.{start_onto, stmt_onto, stmts_onto}
-use Rattle.java_tree.specs.Formed.{Each, has_some, FormedTy, FormedExpr, FormedMaybeExpr, FormedRun, FormedRuns}
+use Rattle.java_tree.specs.FormedModifiers.{Each, has_some, FormedVariableModifiers}
+use Rattle.java_tree.specs.Brackets.{are_class}
+use Rattle.java_tree.specs.Formed.{FormedTy, FormedExpr, FormedMaybeExpr, FormedRun, FormedRuns}
 use Rattle.java_tree.specs.Formed.{FormedVariable, FormedLocals, FormedStart, FormedStmts, is_body}
 use Rattle.java_tree.specs.Nesting.{most_over, ty_nesting, expr_nesting, exprs_nesting, maybe_expr_nesting}
 use Rattle.java_tree.specs.Nesting.{variable_nesting, locals_nesting, start_nesting}
-use Rattle.java_parser_grammar.specs.ExpressionReading.{Reading}
+use Rattle.java_parser_grammar.specs.BalancedReading.{Reading}
 use Rattle.java_parser_grammar.specs.Taking.{after_keyword}
 use Rattle.java_parser_grammar.specs.Readers.{Readers}
 use Rattle.java_parser_grammar.specs.Lookahead.{looks_local, LabelWord, Other, statement_lead}
@@ -22,11 +27,13 @@ use Rattle.java_parser_grammar.specs.StatementReading.{for_run, each_from, local
 use Rattle.java_parser_grammar.specs.StatementReading.{by_lead}
 use Rattle.java_parser_grammar.proofs.FindingReaders.{Finds}
 use Rattle.java_parser_grammar.proofs.FoundLists.{pack-unpack_exprs}
-use Rattle.java_parser_grammar.proofs.FoundParts.{final_found, no_colon, semicolon_end, close_end, variables_found}
+use Rattle.java_parser_grammar.proofs.FoundParts.{no_colon, semicolon_end, close_end, variables_found}
 use Rattle.java_parser_grammar.proofs.FoundParts.{locals_found, until_found, run_found, runs_found, condition_found}
 use Rattle.java_parser_grammar.proofs.LongerStatements.{unpack_stmts, stmts_fit}
 use Rattle.java_parser_grammar.proofs.LooksLocal.{declared_looks, run_looks}
-use Rattle.java_parser_grammar.proofs.StatementFronts.{starts, starts_ty, starts_declared, starts_statement}
+use Rattle.java_parser_grammar.proofs.StatementFronts.{starts, starts_declared, starts_statement}
+use Rattle.java_parser_grammar.proofs.Annotations.{before_type_found}
+use Rattle.java_parser_grammar.proofs.FoundClasses.{local_class_found, class_lead}
 use Rattle.java_parser_grammar.proofs.Unlabelled.{expr_unlabelled, declared_unlabelled}
 
 pub pack-unpack_stmts : (ss : Stmts) → pack_stmts (unpack_stmts ss) ≡ ss
@@ -34,25 +41,28 @@ unfolding unpack_stmts
 pack-unpack_stmts no_stmt = refl
 pack-unpack_stmts (stmt_then s ss) = rw (pack-unpack_stmts ss) refl
 
-list_looks : (is_final : Bool) (t : Ty) (vs : List Variable) (rest : List Spelled) → FormedTy t → IsTrue (has_some vs)
-    → looks_local (final_onto is_final (ty_onto t (commas_onto variable_onto vs rest))) ≡ true
-list_looks is_final t [] rest f some = absurd cc
-list_looks is_final t (v ∷ vs) rest f some =
-    declared_looks is_final t v.name (maybe_init_onto v.initialiser (behind_commas variable_onto vs rest)) f
+list_looks : (ms : List Modifier) (t : Ty) (vs : List Variable) (rest : List Spelled) → FormedVariableModifiers ms
+    → FormedTy t → IsTrue (has_some vs)
+    → looks_local (modifiers_onto ms (ty_onto t (commas_onto variable_onto vs rest))) ≡ true
+list_looks ms t [] rest b f some = absurd cc
+list_looks ms t (v ∷ vs) rest b f some =
+    declared_looks ms t v.name (brackets_onto v.arrays (maybe_init_onto v.initialiser (behind_commas variable_onto vs
+    rest))) b f
 
 locals_look : (l : Locals) (rest : List Spelled) → FormedLocals l → looks_local (locals_onto l rest) ≡ true
-locals_look l rest f = list_looks l.is_final l.kind l.variables rest f.0 f.1
+locals_look l rest f = list_looks l.modifiers l.kind l.variables rest f.0 f.1 f.2
 
-list_lead : (is_final : Bool) (t : Ty) (vs : List Variable) (rest : List Spelled) → FormedTy t → IsTrue (has_some vs)
-    → statement_lead (final_onto is_final (ty_onto t (commas_onto variable_onto vs rest))) ≡ Other
-list_lead is_final t [] rest f some = absurd cc
-list_lead is_final t (v ∷ vs) rest f some =
-    let behind = maybe_init_onto v.initialiser (behind_commas variable_onto vs rest) in
-    (starts_declared is_final t (identifier v.name ∷ behind) f).other (declared_unlabelled is_final t v.name behind f)
+list_lead : (ms : List Modifier) (t : Ty) (vs : List Variable) (rest : List Spelled) → FormedVariableModifiers ms
+    → FormedTy t → IsTrue (has_some vs)
+    → statement_lead (modifiers_onto ms (ty_onto t (commas_onto variable_onto vs rest))) ≡ Other
+list_lead ms t [] rest b f some = absurd cc
+list_lead ms t (v ∷ vs) rest b f some =
+    let behind = brackets_onto v.arrays (maybe_init_onto v.initialiser (behind_commas variable_onto vs rest)) in
+    (starts_declared ms t (identifier v.name ∷ behind) b f).other (declared_unlabelled ms t v.name behind f)
 
 -- a declaration begins with no keyword of a form, and is not labelled
 pub locals_lead : (l : Locals) (rest : List Spelled) → FormedLocals l → statement_lead (locals_onto l rest) ≡ Other
-locals_lead l rest f = list_lead l.is_final l.kind l.variables rest f.0 f.1
+locals_lead l rest f = list_lead l.modifiers l.kind l.variables rest f.0 f.1 f.2
 
 -- nor does an expression and its `;`
 pub run_lead : (e : Expr) (rest : List Spelled) → FormedExpr e → statement_lead (expr_onto e (sign (codes ";") ∷ rest))
@@ -110,18 +120,18 @@ module _ (readers : Readers) (EndsTy EndsExpr : List Spelled → Type 0) (finds 
         pack-unpack_exprs updates,
       ) refl
 
-  pub each_found : (read : Reading Stmt) (n : ℕ) (is_final : Bool) (t : Ty) (x : List ℕ) (e : Expr) (s : Stmt)
-      (rest : List Spelled) → FormedTy t → FormedExpr e → ty_nesting t ≤ n → expr_nesting e ≤ n → IsTrue (is_body s)
-      → read (stmt_onto s rest) ≡ Some (s, rest)
-      → for_at readers read n (sign (codes "(") ∷ final_onto is_final (ty_onto t (identifier x ∷ sign (codes ":")
-      ∷ expr_onto e (sign (codes ")") ∷ stmt_onto s rest)))) ≡ Some (ForEach is_final t x e s, rest)
+  pub each_found : (read : Reading Stmt) (n : ℕ) (ms : List Modifier) (t : Ty) (x : List ℕ) (e : Expr) (s : Stmt)
+      (rest : List Spelled) → FormedVariableModifiers ms → FormedTy t → FormedExpr e → ty_nesting t ≤ n
+      → expr_nesting e ≤ n → IsTrue (is_body s) → read (stmt_onto s rest) ≡ Some (s, rest)
+      → for_at readers read n (sign (codes "(") ∷ modifiers_onto ms (ty_onto t (identifier x ∷ sign (codes ":")
+      ∷ expr_onto e (sign (codes ")") ∷ stmt_onto s rest)))) ≡ Some (ForEach ms t x e s, rest)
   unfolding for_at for_typed each_from
-  each_found read n is_final t x e s rest f g fits small b h =
+  each_found read n ms t x e s rest m f g fits small b h =
       let c = sign (codes ")") ∷ stmt_onto s rest in
       let a = sign (codes ":") ∷ expr_onto e c in
       rw (
-        declared_looks is_final t x a f,
-        final_found is_final (ty_onto t (identifier x ∷ a)) (starts_ty t (identifier x ∷ a) f).no_final,
+        declared_looks ms t x a m f,
+        before_type_found ms t (identifier x ∷ a) m f,
         finds.ty t f n (identifier x ∷ a) fits (finds.name_ends_ty x a),
         finds.expr e g n c small (finds.close_ends (stmt_onto s rest)),
         h,
@@ -129,28 +139,28 @@ module _ (readers : Readers) (EndsTy EndsExpr : List Spelled → Type 0) (finds 
       ) refl
 
   -- the head of a `for` that declares variables
-  typed_found : (read : Reading Stmt) (n : ℕ) (is_final : Bool) (t : Ty) (vs : List Variable) (tail : List Spelled)
-      → FormedTy t → IsTrue (has_some vs) → Each FormedVariable vs → ty_nesting t ≤ n
+  typed_found : (read : Reading Stmt) (n : ℕ) (ms : List Modifier) (t : Ty) (vs : List Variable) (tail : List Spelled)
+      → FormedVariableModifiers ms → FormedTy t → IsTrue (has_some vs) → Each FormedVariable vs → ty_nesting t ≤ n
       → most_over variable_nesting vs ≤ n
       → for_at readers read n (sign (codes "(") ∷ locals_onto (record {
-        is_final = is_final;
+        modifiers = ms;
         kind = t;
         variables = vs;
       }) (sign (codes ";") ∷ tail)) ≡ for_from readers read n (Declares (record {
-        is_final = is_final;
+        modifiers = ms;
         kind = t;
         variables = vs;
       })) (sign (codes ";") ∷ tail)
   unfolding for_at for_typed
-  typed_found read n is_final t [] tail f some g fits small = absurd cc
-  typed_found read n is_final t (v ∷ vs) tail f some g fits small =
+  typed_found read n ms t [] tail m f some g fits small = absurd cc
+  typed_found read n ms t (v ∷ vs) tail m f some g fits small =
       let r = commas_onto variable_onto (v ∷ vs) (sign (codes ";") ∷ tail) in
       rw (
-        declared_looks is_final t v.name _ f,
-        final_found is_final (ty_onto t r) (starts_ty t r f).no_final,
+        declared_looks ms t v.name _ m f,
+        before_type_found ms t r m f,
         finds.ty t f n r fits (finds.name_ends_ty v.name _),
         no_colon v vs tail,
-        variables_found readers EndsTy EndsExpr finds is_final t (v ∷ vs) n tail some g small,
+        variables_found readers EndsTy EndsExpr finds ms t (v ∷ vs) n tail some g small,
       ) refl
 
   runs_look : (es : Exprs) (tail : List Spelled) → FormedRuns es → looks_local (exprs_onto es (sign (codes ";")
@@ -163,7 +173,7 @@ module _ (readers : Readers) (EndsTy EndsExpr : List Spelled → Type 0) (finds 
       → for_at readers read n (sign (codes "(") ∷ start_onto start (sign (codes ";") ∷ tail)) ≡ for_from readers read
       n start (sign (codes ";") ∷ tail)
   unfolding for_at for_run
-  head_found read n (Declares l) tail f fits = typed_found read n l.is_final l.kind l.variables tail f.0 f.1 f.2
+  head_found read n (Declares l) tail f fits = typed_found read n l.modifiers l.kind l.variables tail f.0 f.1 f.2 f.3
       (omega arith) (omega arith)
   head_found read n (Runs es) tail f fits =
       rw (
@@ -200,6 +210,13 @@ module _ (readers : Readers) (EndsTy EndsExpr : List Spelled → Type 0) (finds 
       (ts rest : List Spelled) → IsTrue (is_body s) → read (stmt_onto s rest) ≡ Some (s, rest)
       → by_lead readers read block n (LabelWord x (stmt_onto s rest)) ts ≡ Some (Labelled x s, rest)
   labelled_found read block n x s ts rest b h = rw (h, b) refl
+
+  -- ---- local classes
+
+  pub class_found : (read : Reading Stmt) (block : Reading Stmts) (n : ℕ) (x : List ℕ) (ts rest : List Spelled)
+      → IsTrue (are_class x ts) → by_lead readers read block n (statement_lead (ts ++ rest)) (ts ++ rest) ≡ Some
+      (LocalClass x ts, rest)
+  class_found read block n x ts rest f = rw (class_lead x ts f rest, local_class_found x ts f rest) refl
 
   -- ---- statements in braces
 

@@ -7,10 +7,11 @@ use Rattle.java_tree.specs.Words.{sign}
 use Rattle.java_tree.specs.Trees.{Label, Case, Default, Stmt, Stmts, no_stmt, stmt_then, Pieces, a_switch, Groups}
 use Rattle.java_tree.specs.Trees.{no_group, group_then}
 use Rattle.java_tree.specs.Spelling.{labels_onto, stmts_onto, pieces_onto, groups_onto}
-use Rattle.java_tree.specs.Formed.{Each, has_some, has_stmt, has_group, FormedLabel, FormedStmts, FormedGroups}
+use Rattle.java_tree.specs.FormedModifiers.{Each, has_some}
+use Rattle.java_tree.specs.Formed.{has_stmt, has_group, FormedLabel, FormedStmts, FormedGroups}
 use Rattle.java_tree.specs.Nesting.{most_over, label_nesting}
 use Rattle.java_tree.specs.Rows.{ASwitch, Slots, ◌▹◌}
-use Rattle.java_parser_grammar.specs.ExpressionReading.{Reading}
+use Rattle.java_parser_grammar.specs.BalancedReading.{Reading}
 use Rattle.java_parser_grammar.specs.Taking.{after_sign, after_keyword}
 use Rattle.java_parser_grammar.specs.Readers.{Readers}
 use Rattle.java_parser_grammar.specs.StatementReading.{begins_label, group_stmts_at, groups_at, pieces_at, stmt_at}

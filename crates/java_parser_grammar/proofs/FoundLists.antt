@@ -5,8 +5,8 @@ use Rattle.java_tree.specs.declared.words.Spelled.{Spelled}
 use Rattle.java_tree.specs.Words.{sign}
 use Rattle.java_tree.specs.Trees.{Expr, Exprs, no_expr, expr_then, pack_exprs}
 use Rattle.java_tree.specs.Spelling.{behind_commas, commas_onto, expr_onto, exprs_onto, more_exprs_onto}
-use Rattle.java_tree.specs.Formed.{Each, has_some}
-use Rattle.java_parser_grammar.specs.ExpressionReading.{Reading}
+use Rattle.java_tree.specs.FormedModifiers.{Each, has_some}
+use Rattle.java_parser_grammar.specs.BalancedReading.{Reading}
 use Rattle.java_parser_grammar.specs.Taking.{after_sign, commas}
 use Rattle.java_parser_grammar.specs.StatementReading.{comma_list}
 
@@ -15,17 +15,19 @@ pub record IsRead {A : Type 0} (onto : A → List Spelled → List Spelled) (rea
     → Type 0) (x : A) : Type 0 where
   pub found : (r : List Spelled) → Ends r → read (onto x r) ≡ Some (x, r)
   pub longer : (r : List Spelled) → length r ≤ length (onto x r)
+  -- behind a comma it ends the element before
+  pub behind : (r : List Spelled) → Ends r → Ends (sign (codes ",") ∷ onto x r)
 
 -- what ends a list and each of its elements
 pub record EndsList (Ends : List Spelled → Type 0) (rest : List Spelled) : Type 0 where
   pub here : Ends rest
-  pub comma : (r : List Spelled) → Ends (sign (codes ",") ∷ r)
   pub no_comma : after_sign (codes ",") rest ≡ None
 
 module _ {A : Type 0} (onto : A → List Spelled → List Spelled) (read : Reading A) (Ends : List Spelled → Type 0) where
-  others_end : (xs : List A) (rest : List Spelled) → EndsList Ends rest → Ends (behind_commas onto xs rest)
-  others_end [] rest e = e.here
-  others_end (x ∷ xs) rest e = e.comma (onto x (behind_commas onto xs rest))
+  others_end : (xs : List A) (rest : List Spelled) → Each (IsRead onto read Ends) xs → EndsList Ends rest
+      → Ends (behind_commas onto xs rest)
+  others_end [] rest each e = e.here
+  others_end (x ∷ xs) rest each e = each.0.behind (behind_commas onto xs rest) (others_end xs rest each.1 e)
 
   others_fit : (xs : List A) (rest : List Spelled) → Each (IsRead onto read Ends) xs → length xs + length
       rest ≤ length (behind_commas onto xs rest)
@@ -39,7 +41,7 @@ module _ {A : Type 0} (onto : A → List Spelled → List Spelled) (read : Readi
   commas_found [] (suc m) rest each e room = rw e.no_comma refl
   commas_found (x ∷ xs) zero rest each e room = absurd (omega arith)
   commas_found (x ∷ xs) (suc m) rest each e room =
-      let found = each.0.found (behind_commas onto xs rest) (others_end xs rest e) in
+      let found = each.0.found (behind_commas onto xs rest) (others_end xs rest each.1 e) in
       rw (found, commas_found xs m rest each.1 e (omega arith)) refl
 
   pub list_found : (xs : List A) (rest : List Spelled) → IsTrue (has_some xs) → Each (IsRead onto read Ends) xs
@@ -48,7 +50,7 @@ module _ {A : Type 0} (onto : A → List Spelled → List Spelled) (read : Readi
   list_found (x ∷ xs) rest some each e =
       let others = behind_commas onto xs rest in
       let room : length xs ≤ length others = omega (arith, others_fit xs rest each.1) in
-      rw (each.0.found others (others_end xs rest e), commas_found xs (length others) rest each.1 e room) refl
+      rw (each.0.found others (others_end xs rest each.1 e), commas_found xs (length others) rest each.1 e room) refl
 
 -- ---- expressions
 

@@ -1,69 +1,23 @@
--- Each type without type arguments is read, and each type that a `new` makes.
+-- Each type that a `new` makes is read.
 use Rattle.std.proofs.Common.{◌≡◌, ℕ, zero, suc, ◌≤◌, ◌<◌, Bool, true, false, List, [], ◌∷◌, length, Option, Some}
 use Rattle.std.proofs.Common.{None, IsTrue, refl, codes, arith}
 use Rattle.java_tree.specs.declared.words.Spelled.{Spelled}
 use Rattle.java_tree.specs.Words.{sign, sign_glued, keyword, identifier}
 use Rattle.java_tree.specs.Trees.{Ty, Typed, Base, Plain, Named, Parts, no_part, part_then, Part, Bare, Generic}
 use Rattle.java_tree.specs.Trees.{Arguments, Angled, no_argument, argument_then}
-use Rattle.java_tree.specs.Spelling.{brackets_onto, ty_onto, base_onto, more_parts_onto, part_onto, angled_onto}
+use Rattle.java_tree.specs.Spelling.{ty_onto, base_onto, more_parts_onto, part_onto, angled_onto}
 use Rattle.java_tree.specs.Spelling.{more_arguments_onto, argument_onto}
-use Rattle.java_tree.specs.Formed.{has_part, is_plain_word, is_bare, are_bare_parts, FormedTy, FormedBase, FormedParts}
-use Rattle.java_tree.specs.Formed.{FormedPart, FormedLastPart, FormedClassParts, FormedClass, arrays_of, is_named}
+use Rattle.java_tree.specs.Formed.{has_part, is_plain_word, FormedTy, FormedParts, FormedPart, FormedLastPart}
+use Rattle.java_tree.specs.Formed.{FormedClassParts, FormedClass, arrays_of, is_named}
 use Rattle.java_tree.specs.Nesting.{ty_nesting, base_nesting, parts_nesting, part_nesting}
 use Rattle.java_parser_grammar.specs.Taking.{after_sign, after_angle}
-use Rattle.java_parser_grammar.specs.TypeReading.{after_brackets, points, angled_with, base_with, ty_at, bare_part_at}
-use Rattle.java_parser_grammar.specs.TypeReading.{bare_ty_at, is_diamond, have_diamond, has_diamond, made_part_with}
+use Rattle.java_parser_grammar.specs.TypeReading.{angled_with, ty_at, is_diamond, have_diamond, has_diamond}
+use Rattle.java_parser_grammar.specs.TypeReading.{made_part_with}
 use Rattle.java_parser_grammar.specs.TypeReading.{made_parts_with, made_base_with, made_base_at}
 use Rattle.java_parser_grammar.proofs.TypeFronts.{EndsPart, EndsBase, argument_front, count_parts, parts_longer}
 use Rattle.java_parser_grammar.proofs.TypeFronts.{arguments_longer, part_longer}
-use Rattle.java_parser_grammar.proofs.CommaLoops.{points_end, points_turn}
-use Rattle.java_parser_grammar.proofs.FoundTypes.{unpack_parts, packed_parts, arrays_found, plain_found, named_found}
-use Rattle.java_parser_grammar.proofs.FoundTypes.{angle_found, argument_found, arguments_found}
-
--- ---- types without type arguments
-
--- what does not go on with such a type
-pub record EndsBare (rest : List Spelled) : Type 0 where
-  pub point : after_sign (codes ".") rest ≡ None
-  pub brackets : after_brackets rest ≡ None
-
-point_none : (m : ℕ) (rest : List Spelled) → after_sign (codes ".") rest ≡ None → after_sign (codes ".")
-    (brackets_onto m rest) ≡ None
-point_none zero rest e = e
-point_none (suc m) rest e = refl
-
-bare_parts_found : (ps : Parts) → IsTrue (are_bare_parts ps) → (k : ℕ) (rest : List Spelled) → count_parts ps ≤ k
-    → after_sign (codes ".") rest ≡ None → points bare_part_at k (more_parts_onto ps rest) ≡ Some (
-      unpack_parts ps,
-      rest,
-    )
-unfolding unpack_parts count_parts
-bare_parts_found no_part f k rest room e = points_end bare_part_at k rest e
-bare_parts_found (part_then p ps) f zero rest room e = absurd (omega arith)
-bare_parts_found (part_then (Bare x) ps) f (suc k) rest room e =
-    let s = more_parts_onto ps rest in
-    points_turn bare_part_at k (Bare x) (unpack_parts ps) (identifier x ∷ s) s rest refl (bare_parts_found ps f k rest
-    (omega arith) e)
-bare_parts_found (part_then (Generic x a) ps) f (suc k) rest room e = absurd cc
-
-bare_base_found : (b : Base) (m : ℕ) → FormedBase b → IsTrue (is_bare (Typed b m)) → (rest : List Spelled)
-    → after_sign (codes ".") rest ≡ None → base_with bare_part_at (base_onto b rest) ≡ Some (b, rest)
-bare_base_found (Plain text) m f bare rest e = plain_found bare_part_at text rest f
-bare_base_found (Named no_part) m f bare rest e = absurd cc
-bare_base_found (Named (part_then (Bare x) ps)) m f bare rest e =
-    let s = more_parts_onto ps rest in
-    named_found bare_part_at (Bare x) ps x s s rest refl (bare_parts_found ps bare (length s) rest
-    (omega (arith, parts_longer ps rest)) e)
-bare_base_found (Named (part_then (Generic x a) ps)) m f bare rest e = absurd cc
-
-pub bare_found : (t : Ty) → FormedTy t → IsTrue (is_bare t) → (rest : List Spelled) → EndsBare rest
-    → bare_ty_at (ty_onto t rest) ≡ Some (t, rest)
-unfolding bare_ty_at
-bare_found (Typed b m) f bare rest e =
-    rw (bare_base_found b m f bare (brackets_onto m rest) (point_none m rest e.point)) (arrays_found b m rest
-    e.brackets)
-
--- ---- what stands behind `new`
+use Rattle.java_parser_grammar.proofs.FoundTypes.{unpack_parts, packed_parts, angle_found, argument_found}
+use Rattle.java_parser_grammar.proofs.FoundTypes.{arguments_found}
 
 module _ (read : List Spelled → Option (Ty × List Spelled)) where
   made_bare : (x : List ℕ) (rest : List Spelled) → after_sign (codes "<") rest ≡ None → made_part_with read

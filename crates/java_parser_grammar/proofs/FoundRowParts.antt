@@ -3,30 +3,34 @@ use Rattle.std.proofs.Common.{◌≡◌, ℕ, zero, suc, ◌≤◌, ◌<◌, Boo
 use Rattle.std.proofs.Common.{None, IsTrue, codes, refl, arith}
 use Rattle.java_tree.specs.declared.words.Spelled.{Spelled}
 use Rattle.java_tree.specs.Words.{identifier, sign}
-use Rattle.java_tree.specs.Trees.{Ty, Expr, Resource, Resources, CatchParameter, Label, Case, Default}
-use Rattle.java_tree.specs.Spelling.{final_onto, ty_onto, expr_onto, maybe_name_onto, maybe_behind_onto}
+use Rattle.java_tree.specs.Trees.{Ty, Expr, Modifier, Word, Annotated, Resource, Resources, CatchParameter, Label, Case}
+use Rattle.java_tree.specs.Trees.{Default}
+use Rattle.java_tree.specs.Spelling.{behind_sign, modifiers_onto, ty_onto, expr_onto, maybe_name_onto}
+use Rattle.java_tree.specs.Spelling.{maybe_behind_onto}
 use Rattle.java_tree.specs.Spelling.{resource_onto, more_resources_onto, last_semicolon_onto, maybe_resources_onto}
-use Rattle.java_tree.specs.Spelling.{behind_bars, catch_parameter_onto, label_onto, labels_onto}
-use Rattle.java_tree.specs.Formed.{Each, has_some, FormedTy, FormedMaybeExpr, FormedThrown, FormedResource}
+use Rattle.java_tree.specs.Spelling.{catch_parameter_onto, label_onto, labels_onto}
+use Rattle.java_tree.specs.FormedModifiers.{Each, has_some, FormedVariableModifiers}
+use Rattle.java_tree.specs.Formed.{FormedTy, FormedMaybeExpr, FormedThrown, FormedResource}
 use Rattle.java_tree.specs.Formed.{FormedMaybeResources, FormedCatchParameter, FormedLabel}
 use Rattle.java_tree.specs.Nesting.{most_over, ty_nesting, maybe_expr_nesting, resource_nesting}
 use Rattle.java_tree.specs.Nesting.{maybe_resources_nesting, catch_parameter_nesting, label_nesting}
 use Rattle.java_parser_grammar.specs.Taking.{after_sign, after_name}
 use Rattle.java_parser_grammar.specs.Readers.{Readers}
 use Rattle.java_parser_grammar.specs.StatementReading.{maybe_name_at, maybe_behind_at, resource_at, more_resources_at}
-use Rattle.java_parser_grammar.specs.StatementReading.{maybe_resources_at, named_at, bars_at, catch_parameter_at}
+use Rattle.java_parser_grammar.specs.StatementReading.{maybe_resources_at, named_at, catch_parameter_at}
 use Rattle.java_parser_grammar.specs.StatementReading.{begins_label, label_at, labels_at}
 use Rattle.java_parser_grammar.proofs.FindingReaders.{Finds}
-use Rattle.java_parser_grammar.proofs.FoundParts.{final_found}
-use Rattle.java_parser_grammar.proofs.LongerStatements.{resources_fit, bars_fit}
+use Rattle.java_parser_grammar.proofs.Annotations.{before_type_found}
+use Rattle.java_parser_grammar.proofs.FoundTypeLists.{between_found}
+use Rattle.java_parser_grammar.proofs.LongerStatements.{resources_fit}
 use Rattle.java_parser_grammar.proofs.ReadableRows.{sign_front}
-use Rattle.java_parser_grammar.proofs.StatementFronts.{starts_ty}
 use Rattle.java_parser_grammar.proofs.TypeFronts.{ty_front}
 
-declared_opens : (is_final : Bool) (t : Ty) (rest : List Spelled) → FormedTy t → after_sign (codes ")")
-    (final_onto is_final (ty_onto t rest)) ≡ None
-declared_opens true t rest f = refl
-declared_opens false t rest f = (ty_front t rest f).no_sign (codes ")")
+declared_opens : (ms : List Modifier) (t : Ty) (rest : List Spelled) → FormedTy t → after_sign (codes ")")
+    (modifiers_onto ms (ty_onto t rest)) ≡ None
+declared_opens [] t rest f = (ty_front t rest f).no_sign (codes ")")
+declared_opens (Word text ∷ ms) t rest f = refl
+declared_opens (Annotated n ∷ ms) t rest f = refl
 
 module _ (readers : Readers) (EndsTy EndsExpr : List Spelled → Type 0) (finds : Finds readers EndsTy EndsExpr) where
   -- ---- what may be left out
@@ -51,9 +55,9 @@ module _ (readers : Readers) (EndsTy EndsExpr : List Spelled → Type 0) (finds 
   resource_found r n rest f fits ends =
       let named = identifier r.name ∷ sign (codes "=") ∷ expr_onto r.value rest in
       rw (
-        final_found r.is_final (ty_onto r.kind named) (starts_ty r.kind named f.0).no_final,
-        finds.ty r.kind f.0 n named (omega arith) (finds.name_ends_ty _ _),
-        finds.expr r.value f.1 n rest (omega arith) ends,
+        before_type_found r.modifiers r.kind named f.0 f.1,
+        finds.ty r.kind f.1 n named (omega arith) (finds.name_ends_ty _ _),
+        finds.expr r.value f.2 n rest (omega arith) ends,
       ) refl
 
   -- the end of the list
@@ -76,7 +80,7 @@ module _ (readers : Readers) (EndsTy EndsExpr : List Spelled → Type 0) (finds 
   more_resources_found (r ∷ rs) last n (suc m) rest f fits room =
       let behind = more_resources_onto rs (closed last rest) in
       rw (
-        declared_opens r.is_final r.kind (identifier r.name ∷ sign (codes "=") ∷ expr_onto r.value behind) f.0.0,
+        declared_opens r.modifiers r.kind (identifier r.name ∷ sign (codes "=") ∷ expr_onto r.value behind) f.0.1,
         resource_found r n behind f.0 (omega arith) (ends_resource rs last rest),
         more_resources_found rs last n m rest f.1 (omega arith) (omega arith),
       ) refl
@@ -106,45 +110,27 @@ module _ (readers : Readers) (EndsTy EndsExpr : List Spelled → Type 0) (finds 
       → named_at readers n (ty_onto t r) ≡ Some (t, r)
   named_found t n r f fits ends = rw (finds.ty t f.0 n r fits ends, f.1) refl
 
-  ends_bars : (ts : List Ty) (x : List ℕ) (r : List Spelled) → EndsTy (behind_bars ts (identifier x ∷ r))
-  ends_bars [] x r = finds.name_ends_ty x r
-  ends_bars (t ∷ ts) x r = finds.bar_ends_ty _
-
-  bars_found : (ts : List Ty) (n m : ℕ) (x : List ℕ) (r : List Spelled) → Each FormedThrown ts
-      → most_over ty_nesting ts ≤ n → length ts ≤ m
-      → bars_at readers n m (behind_bars ts (identifier x ∷ r)) ≡ Some (ts, identifier x ∷ r)
-  unfolding bars_at
-  bars_found [] n zero x r f fits room = refl
-  bars_found [] n (suc m) x r f fits room = refl
-  bars_found (t ∷ ts) n zero x r f fits room = absurd (omega arith)
-  bars_found (t ∷ ts) n (suc m) x r f fits room =
-      rw (
-        named_found t n (behind_bars ts (identifier x ∷ r)) f.0 (omega arith) (ends_bars ts x r),
-        bars_found ts n m x r f.1 (omega arith) (omega arith),
-      ) refl
-
-  types_found : (is_final : Bool) (ts : List Ty) (x : List ℕ) (n : ℕ) (rest : List Spelled) → IsTrue (has_some ts)
-      → Each FormedThrown ts → most_over ty_nesting ts ≤ n
+  types_found : (ms : List Modifier) (ts : List Ty) (x : List ℕ) (n : ℕ) (rest : List Spelled)
+      → FormedVariableModifiers ms → IsTrue (has_some ts) → Each FormedThrown ts → most_over ty_nesting ts ≤ n
       → catch_parameter_at readers n (catch_parameter_onto (record {
-        is_final = is_final;
+        modifiers = ms;
         types = ts;
         name = x;
-      }) rest) ≡ Some (record { is_final = is_final; types = ts; name = x }, rest)
+      }) rest) ≡ Some (record { modifiers = ms; types = ts; name = x }, rest)
   unfolding catch_parameter_at
-  types_found is_final [] x n rest some f fits = absurd cc
-  types_found is_final (t ∷ ts) x n rest some f fits =
+  types_found ms [] x n rest b some f fits = absurd cc
+  types_found ms (t ∷ ts) x n rest b some f fits =
       let named = identifier x ∷ sign (codes ")") ∷ rest in
-      let others = behind_bars ts named in
       rw (
-        final_found is_final (ty_onto t others) (starts_ty t others f.0.0).no_final,
-        named_found t n others f.0 (omega arith) (ends_bars ts x (sign (codes ")") ∷ rest)),
-        bars_found ts n (length others) x (sign (codes ")") ∷ rest) f.1 (omega arith)
-            (omega (arith, bars_fit ts named)),
+        before_type_found ms t (behind_sign (codes "|") ts named) b f.0.0,
+        between_found (codes "|") refl EndsTy finds.bar_ends_ty FormedThrown n (named_at readers n)
+            (λ t g r fits ends. named_found t n r g fits ends) t ts f named fits refl
+            (finds.name_ends_ty x (sign (codes ")") ∷ rest)),
       ) refl
 
   pub catch_parameter_found : (c : CatchParameter) (n : ℕ) (rest : List Spelled) → FormedCatchParameter c
       → catch_parameter_nesting c ≤ n → catch_parameter_at readers n (catch_parameter_onto c rest) ≡ Some (c, rest)
-  catch_parameter_found c n rest f fits = types_found c.is_final c.types c.name n rest f.0 f.1 fits
+  catch_parameter_found c n rest f fits = types_found c.modifiers c.types c.name n rest f.0 f.1 f.2 fits
 
   -- ---- labels
 

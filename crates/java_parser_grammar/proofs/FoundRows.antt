@@ -15,7 +15,7 @@ use Rattle.java_tree.specs.Nesting.{catch_parameter_nesting, stmts_nesting, bloc
 use Rattle.java_tree.specs.Rows.{AKeyword, ASign, AnExpr, Until, MaybeName, MaybeBehind, ACondition, ABody, ABlock}
 use Rattle.java_tree.specs.Rows.{MaybeResources, ACatchParameter, Again, Perhaps, SomePart, Slots, no_slot, ◌▹◌}
 use Rattle.java_tree.specs.Rows.{is_row, row_of}
-use Rattle.java_parser_grammar.specs.ExpressionReading.{Reading}
+use Rattle.java_parser_grammar.specs.BalancedReading.{Reading}
 use Rattle.java_parser_grammar.specs.Taking.{after_sign, after_keyword, after_name}
 use Rattle.java_parser_grammar.specs.Readers.{Readers}
 use Rattle.java_parser_grammar.specs.StatementReading.{expr_until, again_at, pieces_at, stmt_at, block_at}

@@ -6,7 +6,8 @@ use Rattle.std.specs.Cmp.Lexicographic.{bytes_decides}
 use Rattle.std.proofs.lemmas.Bool.{and_parts, or_right}
 use Rattle.java_tree.specs.declared.words.Spelled.{Spelled}
 use Rattle.java_tree.specs.Words.{keyword, sign}
-use Rattle.java_tree.specs.Trees.{Stmt, Block, Local, Run, If, IfElse, For, ForEach, Labelled, Empty, Row, Stmts}
+use Rattle.java_tree.specs.Trees.{Stmt, Block, Local, Run, If, IfElse, For, ForEach, Labelled, LocalClass, Empty}
+use Rattle.java_tree.specs.Trees.{Row, Stmts}
 use Rattle.java_tree.specs.Trees.{no_stmt, stmt_then, Pieces, no_piece, a_token, an_expr, maybe_an_expr}
 use Rattle.java_tree.specs.Trees.{maybe_a_name, maybe_behind, a_condition, a_body, a_block, maybe_resources}
 use Rattle.java_tree.specs.Trees.{a_catch_parameter, a_list, present, absent, some_part, a_switch, Several, no_row}
@@ -23,7 +24,8 @@ use Rattle.java_parser_grammar.specs.Readers.{Readers}
 use Rattle.java_parser_grammar.specs.StatementReading.{again_at, pieces_at, stmt_at, block_at}
 use Rattle.java_parser_grammar.proofs.FindingReaders.{Finds}
 use Rattle.java_parser_grammar.proofs.FoundForms.{for_onto, if_found, if_else_found, from_found, each_found}
-use Rattle.java_parser_grammar.proofs.FoundForms.{head_found, labelled_found, locals_lead, run_lead, local_found}
+use Rattle.java_parser_grammar.proofs.FoundForms.{head_found, labelled_found, class_found, locals_lead, run_lead}
+use Rattle.java_parser_grammar.proofs.FoundForms.{local_found}
 use Rattle.java_parser_grammar.proofs.FoundForms.{run_line_found, EachRead, braces_found}
 use Rattle.java_parser_grammar.proofs.FoundRows.{RowRead, nothing_read, keyword_read, sign_read, expr_read}
 use Rattle.java_parser_grammar.proofs.FoundRows.{until_read, until_row, condition_read, body_read, block_read}
@@ -64,8 +66,9 @@ module _ (readers : Readers) (EndsTy EndsExpr : List Spelled → Type 0) (finds 
   stmt_nested (If e s) = omega arith
   stmt_nested (IfElse e s t) = omega arith
   stmt_nested (For start condition updates s) = omega arith
-  stmt_nested (ForEach is_final t x e s) = omega arith
+  stmt_nested (ForEach ms t x e s) = omega arith
   stmt_nested (Labelled x s) = omega arith
+  stmt_nested (LocalClass x ts) = omega arith
   stmt_nested Empty = omega arith
   stmt_nested (Row word ps) = omega arith
 
@@ -97,13 +100,15 @@ module _ (readers : Readers) (EndsTy EndsExpr : List Spelled → Type 0) (finds 
         (for_onto readers EndsTy EndsExpr finds condition updates s rest) f.0 (omega arith)
         ∙ from_found readers EndsTy EndsExpr finds (stmt_at readers n) n start condition updates s rest f.1 f.2
         (omega arith) (omega arith) f.4 (stmt_found s n rest f.3 (omega arith) b)
-    stmt_found (ForEach is_final t x e s) (suc n) rest f fits b =
-        each_found readers EndsTy EndsExpr finds (stmt_at readers n) n is_final t x e s rest f.0 f.1 (omega arith)
-        (omega arith) f.3 (stmt_found s n rest f.2 (omega arith) b)
+    stmt_found (ForEach ms t x e s) (suc n) rest f fits b =
+        each_found readers EndsTy EndsExpr finds (stmt_at readers n) n ms t x e s rest f.0 f.1 f.2 (omega arith)
+        (omega arith) f.4 (stmt_found s n rest f.3 (omega arith) b)
     stmt_found (Labelled x s) (suc n) rest f fits b =
         labelled_found readers EndsTy EndsExpr finds (stmt_at readers n) (block_at readers n) n x s
         (stmt_onto (Labelled x s) rest) rest f.1
         (stmt_found s n rest f.0 (omega arith) b)
+    stmt_found (LocalClass x ts) (suc n) rest f fits b =
+        class_found readers EndsTy EndsExpr finds (stmt_at readers n) (block_at readers n) n x ts rest f
     stmt_found Empty (suc n) rest f fits b = refl
     stmt_found (Row word ps) (suc n) rest f fits b =
         row_found readers EndsTy EndsExpr finds n word ps rest f.0

@@ -2,14 +2,12 @@
 use Rattle.std.proofs.Common.{◌≡◌, ℕ, Bool, true, false, not, ◌&&◌, List, [], ◌∷◌, refl, sym, ◌∙◌, subst, codes}
 use Rattle.std.proofs.lemmas.Bool.{true≢false}
 use Rattle.java_lexer.specs.declared.token.Token.{Token}
-use Rattle.java_lexer.specs.declared.token.TokenKind.{TokenKind}
-use Rattle.java_lexer.specs.declared.token.TokenKind.TheVariants as kind
 use Rattle.racer_base.specs.Name.{is_listed}
 use Rattle.java_tree.specs.declared.words.Spelled.{Spelled}
 use Rattle.java_tree.specs.Words.{keyword, sign}
 use Rattle.java_tree.specs.Brackets.{is_sign}
-use Rattle.java_parser_grammar.specs.Taking.{is_keyword_kind, is_keyword}
-use Rattle.java_parser_grammar.specs.Lookahead.{is_word_name}
+use Rattle.java_tree.specs.Brackets.{is_keyword_kind, is_keyword}
+use Rattle.java_tree.specs.Brackets.{is_word_name}
 use Rattle.java_parser_grammar.proofs.Taken.{sign_is}
 use Rattle.java_parser_grammar.specs.Tokens.{plain, is_name, begins, begins_sign, begins_word}
 use Rattle.java_parser_grammar.specs.Pieces.{Item}

@@ -12,7 +12,9 @@ use Rattle.java_tree.specs.Operators.{is_binary, is_assignment, is_step}
 use Rattle.java_tree.specs.Spelling.{operator_onto}
 use Rattle.java_parser_grammar.specs.Taking.{match_option, after_glued}
 use Rattle.java_parser_grammar.specs.Leads.{Lead, Assigns, Asks, Joins, Tests, Steps, Selects, Indexes, Opens, Ends}
-use Rattle.java_parser_grammar.specs.Leads.{one_sign_operators, lead_of_angle, lead_of_sign, lead_of_word, opens, lead}
+use Rattle.java_parser_grammar.specs.TypeReading.{opens, opens_word}
+use Rattle.java_parser_grammar.specs.Leads.{Refers, Binds, binds, one_sign_operators, lead_of_angle, lead_of_sign}
+use Rattle.java_parser_grammar.specs.Leads.{lead_of_word, lead}
 use Rattle.java_parser_grammar.proofs.OperatorTexts.{listed_cases}
 use Rattle.java_parser_grammar.proofs.Ensuring.{Ensures, glued_taken}
 
@@ -25,7 +27,9 @@ LeadIs ts (Tests r) = ts ≡ keyword (codes "instanceof") ∷ r
 LeadIs ts (Steps op r) = (ts ≡ sign op ∷ r) × IsTrue (is_step op)
 LeadIs ts (Selects r) = ts ≡ sign (codes ".") ∷ r
 LeadIs ts (Indexes r) = ts ≡ sign (codes "[") ∷ r
+LeadIs ts (Refers r) = ts ≡ sign (codes "::") ∷ r
 LeadIs ts Opens = Unit {0}
+LeadIs ts Binds = Unit {0}
 LeadIs ts Ends = Unit {0}
 
 by_cond : (P : Lead → Type 0) (b : Bool) (x y : Lead) → (b ≡ true → P x) → (b ≡ false → P y) → P (cond b x y)
@@ -116,14 +120,16 @@ sign_lead text ts =
     (λ _. by_cond P (bytes_eq text (codes "?")) _ _ (same_sign text (codes "?") ts)
     (λ _. by_cond P (bytes_eq text (codes ".")) _ _ (same_sign text (codes ".") ts)
     (λ _. by_cond P (bytes_eq text (codes "[")) _ _ (same_sign text (codes "[") ts)
-    (λ _. by_cond P (opens text) Opens Ends (λ _. tt) (λ _. tt))))))))
+    (λ _. by_cond P (bytes_eq text (codes "::")) _ _ (same_sign text (codes "::") ts)
+    (λ _. by_cond P (binds text) Binds _ (λ _. tt)
+    (λ _. by_cond P (opens text) Opens Ends (λ _. tt) (λ _. tt))))))))))
 
 keyword_lead : (text : List ℕ) (ts : List Spelled) → LeadIs (keyword text ∷ ts) (lead_of_word kind.Keyword text ts)
 keyword_lead text ts =
     let P : Lead → Type 0 = LeadIs (keyword text ∷ ts) in
     by_cond P (bytes_eq text (codes "instanceof")) _ _ (λ e. ap (λ (t : List ℕ). keyword t ∷ ts)
     ((bytes_decides text (codes "instanceof")).0 e))
-    (λ _. by_cond P (is_listed (codes "this" ∷ codes "new" ∷ []) text) Opens Ends (λ _. tt) (λ _. tt))
+    (λ _. by_cond P (opens_word text) Opens Ends (λ _. tt) (λ _. tt))
 
 word_lead : (k : TokenKind) (text : List ℕ) (glued : Bool) (ts : List Spelled)
     → LeadIs (record { kind = k; text = text; glued = glued } ∷ ts) (cond glued Ends (lead_of_word k text ts))

@@ -1,6 +1,9 @@
 pub mod SoundJava
 pub mod ReadMethods
 pub mod StatementFronts
+pub mod LambdaParameters
+pub mod Angles
+pub mod NoAngles
 pub mod LooksLocal
 pub mod FoundLists
 pub mod FindingReaders
@@ -62,3 +65,15 @@ pub mod WalkedFiles
 mod CountedMembers
 pub mod Misfits
 mod UnfitRows
+mod FoundTested
+mod FoundTypeLists
+mod SoundTypeLists
+mod BalancedTokens
+mod FoundTokens
+mod NoLambda
+mod LeavesForms
+mod TypeNames
+mod SoundTokens
+mod SoundNames
+mod LocalTypes
+mod FoundClasses

@@ -4,15 +4,17 @@ use Rattle.java_tree.specs.declared.words.Spelled.{Spelled}
 use Rattle.java_tree.specs.Words.{sign}
 use Rattle.java_tree.specs.Trees.{Variable}
 use Rattle.java_tree.specs.Spelling.{commas_onto, variable_onto}
-use Rattle.java_tree.specs.Formed.{Each, has_some, FormedVariable}
+use Rattle.java_tree.specs.FormedModifiers.{Each, has_some}
+use Rattle.java_tree.specs.Formed.{FormedVariable}
 use Rattle.java_tree.specs.Nesting.{most_over, variable_nesting}
 use Rattle.java_parser_grammar.specs.Taking.{after_sign}
 use Rattle.java_parser_grammar.specs.Leads.{lead, pull}
+use Rattle.java_parser_grammar.specs.ExpressionReading.{LeavesTypes}
 use Rattle.java_parser_grammar.specs.JavaReaders.{method_readers}
 use Rattle.java_parser_grammar.specs.StatementReading.{comma_list, variable_at}
 use Rattle.java_parser_grammar.proofs.FoundJava.{EndsExpr, java_finds}
 use Rattle.java_parser_grammar.proofs.FoundParts.{listed_found}
-use Rattle.java_parser_grammar.proofs.FoundExpressions.{same_read}
+use Rattle.java_parser_grammar.proofs.FoundExpressions.{nothing_leaves, same_read}
 use Rattle.java_parser_grammar.proofs.SoundJava.{java_sound}
 use Rattle.java_parser_grammar.proofs.SoundParts.{listed_sound}
 use Rattle.java_parser_grammar.proofs.SoundSteps.{GotOne, SomeOf}
@@ -33,17 +35,19 @@ no_equals rest ends = by_answer (after_sign (codes "=") rest) refl where
       let pulled : pull rest ≡ 1 = ap pull (after_sign_is (codes "=") rest r e) ∙ pull_equals r in absurd (omega arith)
 
 pub variables_are_found : (vs : List Variable) (n : ℕ) (rest : List Spelled) → IsTrue (has_some vs)
-    → Each FormedVariable vs → most_over variable_nesting vs ≤ n → pull rest ≤ 0
+    → Each FormedVariable vs → most_over variable_nesting vs ≤ n → pull rest ≤ 0 → LeavesTypes rest
     → after_sign (codes ",") rest ≡ None
     → comma_list (variable_at method_readers n) (commas_onto variable_onto vs rest) ≡ Some (vs, rest)
-variables_are_found vs n rest some f fits ends no_comma =
-    listed_found method_readers EndsTy EndsExpr java_finds vs n rest some f fits ends (no_equals rest ends) no_comma
+variables_are_found vs n rest some f fits ends types no_comma =
+    listed_found method_readers EndsTy EndsExpr java_finds vs n rest some f fits
+    (record { pulls = ends; types = types })
+    (no_equals rest ends) no_comma
 
 pub variables_end_tokens : (vs : List Variable) (n : ℕ) → IsTrue (has_some vs) → Each FormedVariable vs
     → most_over variable_nesting vs ≤ n
     → comma_list (variable_at method_readers n) (commas_onto variable_onto vs []) ≡ Some (vs, [])
 variables_end_tokens vs n some f fits =
-    variables_are_found vs n [] some f fits (omega (arith, pull_nothing)) refl
+    variables_are_found vs n [] some f fits (omega (arith, pull_nothing)) nothing_leaves refl
 
 pub one_list : (a b : List Variable) → IsTrue (has_some a) → IsTrue (has_some b) → Each FormedVariable a
     → Each FormedVariable b → commas_onto variable_onto a [] ≡ commas_onto variable_onto b [] → a ≡ b

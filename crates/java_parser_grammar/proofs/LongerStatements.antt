@@ -1,30 +1,36 @@
 -- A statement has a token at least.
 use Rattle.std.proofs.Common.{IsTrue, ◌+◌, ◌≤◌, ◌<◌, Bool, true, false, List, [], ◌∷◌, length, Option, Some, None}
 use Rattle.std.proofs.Common.{codes, arith, ℕ}
+use Rattle.std.proofs.lemmas.Bool.{false≢true}
 use Rattle.java_tree.specs.declared.words.Spelled.{Spelled}
+use Rattle.java_tree.specs.Brackets.{are_class}
 use Rattle.java_tree.specs.Words.{keyword, identifier, sign}
-use Rattle.java_tree.specs.Trees.{Ty, Expr, Exprs, no_expr, expr_then, Init, Variable, Locals, Start, Declares}
+use Rattle.java_tree.specs.Trees.{Expr, Exprs, no_expr, expr_then, Init, Variable, Locals, Start, Declares}
 use Rattle.java_tree.specs.Trees.{Runs, Resource, Resources, CatchParameter, Label, Case, Default, Stmt, Block}
-use Rattle.java_tree.specs.Trees.{Local, Run, If, IfElse, For, ForEach, Labelled, Empty, Row, Stmts, no_stmt}
+use Rattle.java_tree.specs.Trees.{Local, Run, If, IfElse, For, ForEach, Labelled, LocalClass, Empty, Row, Stmts}
+use Rattle.java_tree.specs.Trees.{no_stmt}
 use Rattle.java_tree.specs.Trees.{stmt_then, Pieces, no_piece, a_token, an_expr, maybe_an_expr, maybe_a_name}
 use Rattle.java_tree.specs.Trees.{maybe_behind, a_condition, a_body, a_block, maybe_resources, a_catch_parameter}
 use Rattle.java_tree.specs.Trees.{a_list, present, absent, some_part, a_switch, Several, no_row, row_then, Groups}
 use Rattle.java_tree.specs.Trees.{no_group, group_then}
-use Rattle.java_tree.specs.Spelling.{behind_commas, commas_onto, final_onto, ty_onto, expr_onto, exprs_onto}
+use Rattle.java_tree.specs.Spelling.{behind_commas, commas_onto, tokens_onto, ty_onto, between_sign, expr_onto}
+use Rattle.java_tree.specs.Spelling.{exprs_onto}
 use Rattle.java_tree.specs.Spelling.{maybe_expr_onto, maybe_init_onto, variable_onto, locals_onto, start_onto}
 use Rattle.java_tree.specs.Spelling.{resource_onto, more_resources_onto, last_semicolon_onto, maybe_resources_onto}
-use Rattle.java_tree.specs.Spelling.{behind_bars, bars_onto, catch_parameter_onto, label_onto, labels_onto}
+use Rattle.java_tree.specs.Spelling.{catch_parameter_onto, label_onto, labels_onto}
 use Rattle.java_tree.specs.Spelling.{maybe_name_onto, maybe_behind_onto, stmt_onto, stmts_onto, pieces_onto}
 use Rattle.java_tree.specs.Spelling.{groups_onto, several_onto}
-use Rattle.java_tree.specs.Formed.{has_some, Each, FormedExprs, FormedMaybeExpr, FormedRuns, FormedMaybeInit}
+use Rattle.java_tree.specs.FormedModifiers.{has_some, Each}
+use Rattle.java_tree.specs.Formed.{FormedExprs, FormedMaybeExpr, FormedRuns, FormedMaybeInit}
 use Rattle.java_tree.specs.Formed.{FormedVariable, FormedLocals, FormedStart, FormedResource, FormedMaybeResources}
 use Rattle.java_tree.specs.Formed.{FormedLabel, FormedStmt, FormedStmts, Fits, EachFits, FormedGroups}
 use Rattle.java_tree.specs.Rows.{AKeyword, ASign, AnExpr, Until, MaybeName, MaybeBehind, ACondition, ABody, ABlock}
 use Rattle.java_tree.specs.Rows.{ASwitch, MaybeResources, ACatchParameter, Again, Perhaps, SomePart, Slots, no_slot}
 use Rattle.java_tree.specs.Rows.{◌▹◌, row_of}
-use Rattle.java_parser_grammar.proofs.Lengths.{longer, exprs_longer, init_longer}
+use Rattle.java_parser_grammar.proofs.Lengths.{longer, exprs_longer, init_longer, between_longer, tokens_longer}
+use Rattle.java_parser_grammar.proofs.Annotations.{modifiers_fit}
 use Rattle.java_parser_grammar.proofs.ReadableRows.{rows_of, groups_of}
-use Rattle.java_parser_grammar.proofs.TypeFronts.{ty_longer}
+use Rattle.java_parser_grammar.proofs.TypeFronts.{ty_longer, brackets_longer}
 
 maybe_longer : (e : Option Expr) → FormedMaybeExpr e → (r : List Spelled) → length r ≤ length (maybe_expr_onto e r)
 maybe_longer None f r = omega arith
@@ -35,7 +41,8 @@ maybe_init_longer None f r = omega arith
 maybe_init_longer (Some i) f r = omega (arith, init_longer i f r)
 
 pub variable_longer : (v : Variable) → FormedVariable v → (r : List Spelled) → length r ≤ length (variable_onto v r)
-variable_longer v f r = omega (arith, maybe_init_longer v.initialiser f r)
+variable_longer v f r =
+    omega (arith, brackets_longer v.arrays (maybe_init_onto v.initialiser r), maybe_init_longer v.initialiser f r)
 
 variables_longer : (vs : List Variable) → Each FormedVariable vs → (r : List Spelled) → length r ≤ length
     (behind_commas variable_onto vs r)
@@ -47,7 +54,13 @@ pub list_shorter : (vs : List Variable) → IsTrue (has_some vs) → Each Formed
     → length r < length (commas_onto variable_onto vs r)
 list_shorter [] some f r = absurd cc
 list_shorter (v ∷ vs) some f r =
-    omega (arith, variables_longer vs f.1 r, maybe_init_longer v.initialiser f.0 (behind_commas variable_onto vs r))
+    let others = behind_commas variable_onto vs r in
+    omega (
+      arith,
+      variables_longer vs f.1 r,
+      brackets_longer v.arrays (maybe_init_onto v.initialiser others),
+      maybe_init_longer v.initialiser f.0 others,
+    )
 
 list_longer : (vs : List Variable) → Each FormedVariable vs → (r : List Spelled) → length r ≤ length
     (commas_onto variable_onto vs r)
@@ -55,19 +68,14 @@ list_longer [] f r = omega arith
 list_longer (v ∷ vs) f r =
     omega (arith, variables_longer vs f.1 r, variable_longer v f.0 (behind_commas variable_onto vs r))
 
-pub final_longer : (is_final : Bool) (r : List Spelled) → length r ≤ length (final_onto is_final r)
-final_longer true r = omega arith
-final_longer false r = omega arith
-
 locals_longer : (l : Locals) → FormedLocals l → (r : List Spelled) → length r ≤ length (locals_onto l r)
 locals_longer l f r =
     let variables = commas_onto variable_onto l.variables r in
     omega (
       arith,
-      list_longer l.variables f.2 r,
+      list_longer l.variables f.3 r,
       ty_longer l.kind variables,
-      final_longer l.is_final
-          (ty_onto l.kind variables),
+      modifiers_fit l.modifiers (ty_onto l.kind variables),
     )
 
 -- what is run is formed
@@ -85,7 +93,7 @@ resource_longer : (r : Resource) → FormedResource r → (rest : List Spelled)
     → length rest ≤ length (resource_onto r rest)
 resource_longer r f rest =
     let named = identifier r.name ∷ sign (codes "=") ∷ expr_onto r.value rest in
-    omega (arith, longer r.value f.1 rest, ty_longer r.kind named, final_longer r.is_final (ty_onto r.kind named))
+    omega (arith, longer r.value f.2 rest, ty_longer r.kind named, modifiers_fit r.modifiers (ty_onto r.kind named))
 
 -- there are no more resources than tokens
 pub resources_fit : (rs : List Resource) → Each FormedResource rs → (rest : List Spelled) → length rs + length
@@ -120,19 +128,14 @@ maybe_resources_longer : (rs : Option Resources) → FormedMaybeResources rs →
 maybe_resources_longer None f rest = omega arith
 maybe_resources_longer (Some rs) f rest = list_of_resources_longer rs.items rs.last f rest
 
--- there are no more types than tokens
-pub bars_fit : (ts : List Ty) (rest : List Spelled) → length ts + length rest ≤ length (behind_bars ts rest)
-bars_fit [] rest = omega arith
-bars_fit (t ∷ ts) rest = omega (arith, ty_longer t (behind_bars ts rest), bars_fit ts rest)
-
-bars_longer : (ts : List Ty) (rest : List Spelled) → length rest ≤ length (bars_onto ts rest)
-bars_longer [] rest = omega arith
-bars_longer (t ∷ ts) rest = omega (arith, ty_longer t (behind_bars ts rest), bars_fit ts rest)
-
 catch_parameter_longer : (c : CatchParameter) (rest : List Spelled) → length rest ≤ length (catch_parameter_onto c rest)
 catch_parameter_longer c rest =
     let named = identifier c.name ∷ sign (codes ")") ∷ rest in
-    omega (arith, bars_longer c.types named, final_longer c.is_final (bars_onto c.types named))
+    omega (
+      arith,
+      between_longer (codes "|") c.types named,
+      modifiers_fit c.modifiers (between_sign (codes "|") c.types named),
+    )
 
 pub label_longer : (l : Label) → FormedLabel l → (rest : List Spelled) → length rest < length (label_onto l rest)
 label_longer (Case e) f rest = omega (arith, longer e f.0 (sign (codes ":") ∷ rest))
@@ -154,6 +157,11 @@ maybe_behind_longer text None f rest = omega arith
 maybe_behind_longer text (Some e) f rest = omega (arith, longer e f rest)
 
 -- ---- statements
+
+class_longer : (x : List ℕ) (ts : List Spelled) → IsTrue (are_class x ts) → (rest : List Spelled) → length rest < length
+    (tokens_onto ts rest)
+class_longer x [] f rest = absurd (false≢true f)
+class_longer x (t ∷ ts) f rest = omega (arith, tokens_longer ts rest)
 
 mutual
   pub stmt_longer : (s : Stmt) → FormedStmt s → (rest : List Spelled) → length rest < length (stmt_onto s rest)
@@ -177,11 +185,12 @@ mutual
             f.1 b,
         start_longer start f.0 a,
       )
-  stmt_longer (ForEach is_final t x e s) f rest =
+  stmt_longer (ForEach ms t x e s) f rest =
       let b = sign (codes ")") ∷ stmt_onto s rest in
       let a = identifier x ∷ sign (codes ":") ∷ expr_onto e b in
-      omega (arith, stmt_longer s f.2 rest, longer e f.1 b, ty_longer t a, final_longer is_final (ty_onto t a))
+      omega (arith, stmt_longer s f.3 rest, longer e f.2 b, ty_longer t a, modifiers_fit ms (ty_onto t a))
   stmt_longer (Labelled x s) f rest = omega (arith, stmt_longer s f.0 rest)
+  stmt_longer (LocalClass x ts) f rest = class_longer x ts f rest
   stmt_longer Empty f rest = omega arith
   stmt_longer (Row word ps) f rest = omega (arith, pieces_longer ps (row_of word) f.1 rest)
 

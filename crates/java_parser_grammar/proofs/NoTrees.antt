@@ -7,8 +7,10 @@ use Rattle.java_tree.specs.Words.{keyword}
 use Rattle.java_tree.specs.Trees.{Ty, Typed, Plain, Named, no_part, part_then, Bare, Generic, Modifier, Word, Annotated}
 use Rattle.java_tree.specs.Trees.{Result, NoResult, VoidResult, TypeResult}
 use Rattle.java_tree.specs.Spelling.{ty_onto, modifiers_onto, result_onto}
-use Rattle.java_parser_grammar.specs.Taking.{is_keyword_kind}
-use Rattle.java_tree.specs.Formed.{Each, is_plain_word, is_method_modifier, FormedTy, FormedModifier, FormedResult}
+use Rattle.java_tree.specs.Brackets.{is_keyword_kind}
+use Rattle.java_tree.specs.FormedMethods.{is_method_modifier, FormedModifier, FormedResult}
+use Rattle.java_tree.specs.FormedModifiers.{Each}
+use Rattle.java_tree.specs.Formed.{is_plain_word, FormedTy}
 
 type_spells : (t : Ty) → FormedTy t → ty_onto t [] ≡ [] → ⊥
 type_spells (Typed (Plain text) n) f e = cc

@@ -12,7 +12,8 @@ use Rattle.java_tree.specs.declared.methods.FieldInitialiser.TheVariants.{Absent
 use Rattle.java_tree.specs.Words.{identifier, sign}
 use Rattle.java_tree.specs.Trees.{Init, Variable}
 use Rattle.java_tree.specs.Spelling.{maybe_init_onto, variable_onto, commas_onto}
-use Rattle.java_tree.specs.Formed.{Each, has_some, FormedVariable, FormedMaybeInit}
+use Rattle.java_tree.specs.FormedModifiers.{Each, has_some}
+use Rattle.java_tree.specs.Formed.{FormedVariable, FormedMaybeInit}
 use Rattle.java_tree.specs.View.{init_of}
 use Rattle.java_parser_grammar.proofs.Taken.{sign_is}
 use Rattle.java_parser_grammar.proofs.Ensuring.{name_is}
@@ -29,7 +30,7 @@ plain_append (t ∷ r) s = ap (λ l. plain t ∷ l) (plain_append r s)
 
 -- the variable without its place
 abbrev pub bare : FieldVariable → Variable
-bare v = record { name = v.name.text; initialiser = initialiser_of v.initialiser }
+bare v = record { name = v.name.text; arrays = 0; initialiser = initialiser_of v.initialiser }
 
 append_nothing : (ts : List Spelled) → ts ++ [] ≡ ts
 append_nothing [] = refl

@@ -10,7 +10,7 @@ use Rattle.java_tree.specs.Operators.{BinaryOperator, LogicalOr, Above, ShiftRig
 use Rattle.java_tree.specs.Operators.{is_binary}
 use Rattle.java_tree.specs.Operators.{assignment_operators, is_assignment, is_step, is_prefix}
 use Rattle.java_tree.specs.Spelling.{operator_onto}
-use Rattle.java_tree.specs.Formed.{Each}
+use Rattle.java_tree.specs.FormedModifiers.{Each}
 use Rattle.java_parser_grammar.specs.Taking.{after_glued}
 use Rattle.java_parser_grammar.specs.Leads.{Assigns, Joins, Steps, lead, behind}
 use Rattle.java_parser_grammar.specs.ExpressionReading.{class_at}

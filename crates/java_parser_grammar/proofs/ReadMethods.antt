@@ -3,7 +3,7 @@ use Rattle.std.proofs.Common.{◌≡◌, ℕ, ◌≤◌, List, Some, None, ap, �
 use Rattle.java_tree.specs.declared.words.Spelled.{Spelled}
 use Rattle.java_tree.specs.Trees.{Method}
 use Rattle.java_tree.specs.Spelling.{spelling}
-use Rattle.java_tree.specs.Formed.{FormedMethod}
+use Rattle.java_tree.specs.FormedMethods.{FormedMethod}
 use Rattle.java_tree.specs.Nesting.{method_nesting}
 use Rattle.java_parser_grammar.specs.Readers.{Readers}
 use Rattle.java_parser_grammar.specs.MethodReading.{method_at}

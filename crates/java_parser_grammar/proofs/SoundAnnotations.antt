@@ -1,64 +1,43 @@
 -- Annotations and modifiers that are read are formed and spell what was taken.
-use Rattle.std.proofs.Common.{◌≡◌, ℕ, zero, suc, Bool, true, false, List, [], ◌∷◌, ◌++◌, length, Option, Some, None}
+use Rattle.std.proofs.Common.{◌≡◌, ℕ, zero, suc, Bool, true, false, cond, List, [], ◌∷◌, length, Some, None}
 use Rattle.std.proofs.Common.{IsTrue, codes, refl, ap, ◌∙◌}
+use Rattle.std.proofs.lemmas.Bool.{false≢true}
 use Rattle.java_lexer.specs.declared.token.TokenKind.{TokenKind}
 use Rattle.java_lexer.specs.declared.token.TokenKind.TheVariants as kind
 use Rattle.java_tree.specs.declared.words.Spelled.{Spelled}
 use Rattle.java_tree.specs.Words.{keyword, identifier, sign}
-use Rattle.java_tree.specs.Brackets.{awaited_behind, is_some_and, closes, are_parentheses_or_none}
-use Rattle.java_tree.specs.Trees.{Annotation, Modifier}
+use Rattle.java_tree.specs.Brackets.{are_between, are_parentheses_or_none}
+use Rattle.java_tree.specs.Trees.{Annotation, Modifier, Word, Annotated}
 use Rattle.java_tree.specs.Spelling.{behind_points, names_onto, annotation_onto, annotations_onto, modifiers_onto}
-use Rattle.java_tree.specs.Formed.{Each, has_some, is_method_modifier, FormedAnnotation, FormedModifier}
-use Rattle.java_parser_grammar.specs.Taking.{after_sign, after_name}
-use Rattle.java_parser_grammar.specs.Lookahead.{begins_with, after_modifier}
-use Rattle.java_parser_grammar.specs.MethodReading.{closed_at, parentheses_at, arguments_at, names_at, annotation_at}
-use Rattle.java_parser_grammar.specs.MethodReading.{annotations_at, modifiers_at}
+use Rattle.java_tree.specs.FormedMethods.{is_method_modifier, FormedModifier}
+use Rattle.java_tree.specs.FormedModifiers.{Each, has_some, FormedAnnotation, FormedVariableModifier}
+use Rattle.java_tree.specs.FormedModifiers.{have_no_word, FormedVariableModifiers}
+use Rattle.java_parser_grammar.specs.Taking.{after_sign, after_keyword, after_name}
+use Rattle.java_parser_grammar.specs.Leads.{begins_with}
+use Rattle.java_parser_grammar.specs.Lookahead.{after_modifier}
+use Rattle.java_parser_grammar.specs.BalancedReading.{between_at, arguments_at, names_at, annotation_at}
+use Rattle.java_parser_grammar.specs.BalancedReading.{annotations_at, variable_modifiers_at, before_type_at}
+use Rattle.java_parser_grammar.specs.MethodReading.{modifiers_at}
 use Rattle.java_parser_grammar.specs.TypeReading.{points}
-use Rattle.java_parser_grammar.proofs.Annotations.{one_closed}
-use Rattle.java_parser_grammar.proofs.Ensuring.{Ensures, then_ensures, if_ensures, match_ensures, sign_taken}
-use Rattle.java_parser_grammar.proofs.Ensuring.{name_taken}
-
--- it is formed and spells what was taken
-pub record Taken {A : Type 0} (Formed : A → Type 0) (onto : A → List Spelled → List Spelled) (ts : List Spelled)
-    (x : A × List Spelled) : Type 0 where
-  pub formed : Formed x.0
-  pub spelled : ts ≡ onto x.0 x.1
+use Rattle.java_parser_grammar.proofs.Annotations.{words_in}
+use Rattle.java_parser_grammar.proofs.SoundTokens.{Taken, Passes, between_sound}
+use Rattle.java_parser_grammar.proofs.Ensuring.{Ensures, then_ensures, if_ensures, match_ensures, weaker, sign_taken}
+use Rattle.java_parser_grammar.proofs.Ensuring.{keyword_taken, name_taken}
 
 -- ---- tokens in parentheses
 
-abbrev Passes : (List Spelled → Bool) → List Spelled → List Spelled × List Spelled → Type 0
-Passes test = Taken (λ args. IsTrue (test args)) (λ args r. args ++ r)
-
-one_closed_sound : (o : Option (List (List ℕ))) (t : Spelled) (ts : List Spelled) (test : List Spelled → Bool)
-    → ((args : List Spelled) → test (t ∷ args) ≡ is_some_and o (λ awaited. closes awaited args))
-    → ((awaited : List (List ℕ)) → Ensures (Passes (closes awaited) ts) (closed_at awaited ts))
-    → Ensures (Passes test (t ∷ ts)) (one_closed t ts o)
-one_closed_sound None t ts test same others = tt
-one_closed_sound (Some awaited) t ts test same others =
-    then_ensures (Passes (closes awaited) ts) (Passes test (t ∷ ts)) (closed_at awaited ts) _ (others awaited)
-    (λ c g. record { formed = same c.0 ∙ g.formed; spelled = ap (λ (u : List Spelled). t ∷ u) g.spelled })
-
-closed_sound : (ts : List Spelled) (awaited : List (List ℕ)) → Ensures (Passes (closes awaited) ts) (closed_at awaited
-    ts)
-unfolding closed_at
-closed_sound [] [] = record { formed = refl; spelled = refl }
-closed_sound [] (inner ∷ outer) = tt
-closed_sound (t ∷ ts) [] = record { formed = refl; spelled = refl }
-closed_sound (t ∷ ts) (inner ∷ outer) = one_closed_sound (awaited_behind t inner outer) t ts (closes (inner ∷ outer))
-    (λ args. refl) (closed_sound ts)
-
-parentheses_sound : (ts : List Spelled) → IsTrue (begins_with (codes "(") ts)
-    → Ensures (Passes are_parentheses_or_none ts) (parentheses_at ts)
-parentheses_sound [] h = tt
-parentheses_sound (t ∷ ts) h =
-    then_ensures (Passes (closes (codes ")" ∷ [])) ts) (Passes are_parentheses_or_none (t ∷ ts)) (closed_at (codes ")"
-    ∷ []) ts) _ (closed_sound ts (codes ")" ∷ []))
-    (λ c g. record { formed = rw (h, g.formed) refl; spelled = ap (λ (u : List Spelled). t ∷ u) g.spelled })
+round_sound : (args : List Spelled) → are_between (codes "(") (codes ")") args ≡ true
+    → IsTrue (are_parentheses_or_none args)
+round_sound [] h = refl
+round_sound (t ∷ args) h = h
 
 arguments_sound : (ts : List Spelled) → Ensures (Passes are_parentheses_or_none ts) (arguments_at ts)
 arguments_sound ts =
-    if_ensures (Passes are_parentheses_or_none ts) (begins_with (codes "(") ts) (parentheses_at ts) (Some ([], ts))
-    (parentheses_sound ts) (λ away. record { formed = refl; spelled = refl })
+    if_ensures (Passes are_parentheses_or_none ts) (begins_with (codes "(") ts) _ _
+    (λ round. weaker (Passes (are_between (codes "(") (codes ")")) ts) (Passes are_parentheses_or_none ts)
+    (between_at (codes ")") ts) (λ args g. record { formed = round_sound args.0 g.formed; spelled = g.spelled })
+    (between_sound (codes "(") (codes ")") ts round))
+    (λ away. record { formed = refl; spelled = refl })
 
 -- ---- names
 
@@ -149,3 +128,59 @@ modifiers_sound (suc m) ts =
     (λ x g. then_ensures (Taken (Each FormedModifier) modifiers_onto x.1) G (modifiers_at m x.1) _ (modifiers_sound m
     x.1)
     (λ ms h. record { formed = (g.formed, h.formed); spelled = e ∙ g.spelled ∙ ap (annotation_onto x.0) h.spelled })))
+
+-- ---- before the type of a variable
+
+final_where : (may : Bool) (ts : List Spelled) → Ensures (λ (r : List Spelled). (ts ≡ keyword (codes "final") ∷ r)
+    × (may ≡ true)) (cond may (after_keyword (codes "final") ts) None)
+final_where true ts =
+    weaker (λ r. ts ≡ keyword (codes "final") ∷ r) (λ (r : List Spelled). (ts ≡ keyword (codes "final") ∷ r)
+    × (true ≡ true)) (after_keyword (codes "final") ts) (λ r e. (e, refl)) (keyword_taken (codes "final") ts)
+final_where false ts = tt
+
+no_words : (may : Bool) → IsTrue (words_in may [])
+no_words true = refl
+no_words false = refl
+
+one_word : (may : Bool) (text : List ℕ) (ms : List Modifier) → may ≡ true → IsTrue (have_no_word ms)
+    → IsTrue (words_in may (Word text ∷ ms))
+one_word true text ms e h = h
+one_word false text ms e h = absurd (false≢true e)
+
+no_more_words : (may : Bool) (n : Annotation) (ms : List Modifier) → IsTrue (words_in may ms)
+    → IsTrue (words_in may (Annotated n ∷ ms))
+no_more_words true n ms h = h
+no_more_words false n ms h = h
+
+-- annotations, and `final` where it may stand
+abbrev MayStand : Bool → List Modifier → Type 0
+MayStand may ms = Each FormedVariableModifier ms × IsTrue (words_in may ms)
+
+variable_modifiers_sound : (may : Bool) (m : ℕ) (ts : List Spelled) → Ensures (Taken (MayStand may) modifiers_onto ts)
+    (variable_modifiers_at may m ts)
+unfolding variable_modifiers_at
+variable_modifiers_sound may zero ts = tt
+variable_modifiers_sound may (suc m) ts =
+    let G : List Modifier × List Spelled → Type 0 = Taken (MayStand may) modifiers_onto ts in
+    match_ensures (λ r. ts ≡ sign (codes "@") ∷ r) G (after_sign (codes "@") ts) _ _ (sign_taken (codes "@") ts)
+    (match_ensures (λ (r : List Spelled). (ts ≡ keyword (codes "final") ∷ r) × (may ≡ true)) G
+    (cond may (after_keyword (codes "final") ts) None) _ _ (final_where may ts)
+    (record { formed = (tt, no_words may); spelled = refl })
+    (λ r e. then_ensures (Taken (MayStand false) modifiers_onto r) G (variable_modifiers_at false m r) _
+    (variable_modifiers_sound false m r)
+    (λ ms g. record {
+      formed = ((refl, g.formed.0), one_word may (codes "final") ms.0 e.1 g.formed.1);
+      spelled = e.0 ∙ ap (λ (u : List Spelled). keyword (codes "final") ∷ u) g.spelled;
+    })))
+    (λ r e. then_ensures (Taken FormedAnnotation annotation_onto (sign (codes "@") ∷ r)) G (annotation_at r) _
+    (annotation_sound r)
+    (λ x g. then_ensures (Taken (MayStand may) modifiers_onto x.1) G (variable_modifiers_at may m x.1) _
+    (variable_modifiers_sound may m x.1)
+    (λ ms h. record {
+      formed = ((g.formed, h.formed.0), no_more_words may x.0 ms.0 h.formed.1);
+      spelled = e ∙ g.spelled ∙ ap (annotation_onto x.0) h.spelled;
+    })))
+
+pub before_type_sound : (ts : List Spelled) → Ensures (Taken FormedVariableModifiers modifiers_onto ts)
+    (before_type_at ts)
+before_type_sound ts = variable_modifiers_sound true (length ts) ts

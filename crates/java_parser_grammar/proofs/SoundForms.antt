@@ -6,24 +6,27 @@ use Rattle.std.specs.Prelude.{bytes_eq}
 use Rattle.std.specs.Cmp.Lexicographic.{bytes_decides}
 use Rattle.java_tree.specs.declared.words.Spelled.{Spelled}
 use Rattle.java_tree.specs.Words.{keyword, identifier, sign}
-use Rattle.java_tree.specs.Trees.{Ty, pack_exprs, Start, Declares, Runs, Stmt, Labelled, pack_stmts}
-use Rattle.java_tree.specs.Spelling.{final_onto, ty_onto, expr_onto, exprs_onto, maybe_expr_onto}
+use Rattle.java_tree.specs.Trees.{Ty, pack_exprs, Modifier, Start, Declares, Runs, Stmt, Labelled, pack_stmts}
+use Rattle.java_tree.specs.Spelling.{modifiers_onto, ty_onto, expr_onto, exprs_onto, maybe_expr_onto}
 use Rattle.java_tree.specs.Spelling.{start_onto, stmt_onto, stmts_onto}
+use Rattle.java_tree.specs.FormedModifiers.{FormedVariableModifiers}
 use Rattle.java_tree.specs.Formed.{FormedTy, FormedStart, FormedStmt, FormedStmts, is_body, ends_in_if, goes_on}
 use Rattle.java_tree.specs.Formed.{is_joining}
 use Rattle.java_tree.specs.Nesting.{ty_nesting, start_nesting, stmt_nesting, stmts_nesting}
-use Rattle.java_parser_grammar.specs.ExpressionReading.{Reading}
+use Rattle.java_parser_grammar.specs.BalancedReading.{Reading, before_type_at}
 use Rattle.java_parser_grammar.specs.Taking.{◌>>=◌, after_sign, after_keyword, after_name}
 use Rattle.java_parser_grammar.specs.Readers.{Readers}
 use Rattle.java_parser_grammar.specs.Lookahead.{looks_local, name_and_colon}
-use Rattle.java_parser_grammar.specs.StatementReading.{final_at, variables_at, condition_at, expr_until}
+use Rattle.java_parser_grammar.specs.StatementReading.{variables_at, condition_at, expr_until}
 use Rattle.java_parser_grammar.specs.StatementReading.{runs_until, body_at, stmts_at, braces_at, if_at}
 use Rattle.java_parser_grammar.specs.StatementReading.{for_from, each_from, for_typed, for_run, for_at}
 use Rattle.java_parser_grammar.proofs.Ensuring.{Ensures, then_ensures, if_ensures, match_ensures}
 use Rattle.java_parser_grammar.proofs.Ensuring.{sign_taken, keyword_taken, name_taken}
 use Rattle.java_parser_grammar.proofs.ReadableRows.{Bears}
 use Rattle.java_parser_grammar.proofs.SoundSteps.{match_none_ensures, GotOne}
-use Rattle.java_parser_grammar.proofs.SoundParts.{AreSound, final_taken, declared_sound, condition_sound}
+use Rattle.java_parser_grammar.proofs.SoundParts.{AreSound, declared_sound, condition_sound}
+use Rattle.java_parser_grammar.proofs.SoundTokens.{Taken}
+use Rattle.java_parser_grammar.proofs.SoundAnnotations.{before_type_sound}
 use Rattle.java_parser_grammar.proofs.SoundParts.{until_sound, runs_sound}
 
 pub record GotStmt (n : ℕ) (ts : List Spelled) (x : Stmt × List Spelled) : Type 0 where
@@ -134,21 +137,22 @@ module _ (readers : Readers) (sound : AreSound readers) where
         }))))))
 
     -- a `for` over elements, whose front is read
-    each_sound : (is_final : Bool) (t : Ty) (x : List ℕ) (all ts : List Spelled) → FormedTy t → ty_nesting t ≤ n
-        → all ≡ keyword (codes "for") ∷ sign (codes "(") ∷ final_onto is_final (ty_onto t (identifier x
+    each_sound : (ms : List Modifier) (t : Ty) (x : List ℕ) (all ts : List Spelled) → FormedVariableModifiers ms
+        → FormedTy t → ty_nesting t ≤ n
+        → all ≡ keyword (codes "for") ∷ sign (codes "(") ∷ modifiers_onto ms (ty_onto t (identifier x
         ∷ sign (codes ":") ∷ ts))
-        → Ensures (GotStmt (suc n) all) (each_from readers read n is_final t x ts)
+        → Ensures (GotStmt (suc n) all) (each_from readers read n ms t x ts)
     unfolding each_from
-    each_sound is_final t x all ts f fits e =
+    each_sound ms t x all ts b f fits e =
         let G : Stmt × List Spelled → Type 0 = GotStmt (suc n) all in
         then_ensures _ G (readers.expr n 0 ts) _ (sound.expr n ts)
         (λ y g. then_ensures (λ r. y.1 ≡ sign (codes ")") ∷ r) G (after_sign (codes ")") y.1) _
         (sign_taken (codes ")") y.1)
         (λ r d. then_ensures (GotBody n r) G (body_at readers read r) _ (body_sound r)
         (λ s k. record {
-          formed = (f, g.formed, k.got.formed, k.body);
+          formed = (b, f, g.formed, k.got.formed, k.body);
           small = omega (arith, g.small, k.got.small);
-          spelled = e ∙ ap (λ (u : List Spelled). keyword (codes "for") ∷ sign (codes "(") ∷ final_onto is_final
+          spelled = e ∙ ap (λ (u : List Spelled). keyword (codes "for") ∷ sign (codes "(") ∷ modifiers_onto ms
               (ty_onto t (identifier x ∷ sign (codes ":") ∷ u)))
               (g.spelled ∙ ap (expr_onto y.0) (d ∙ ap (λ (u : List Spelled). sign (codes ")") ∷ u) k.got.spelled));
           bears = k.got.bears;
@@ -159,19 +163,18 @@ module _ (readers : Readers) (sound : AreSound readers) where
     unfolding for_typed
     typed_sound ts =
         let all : List Spelled = keyword (codes "for") ∷ sign (codes "(") ∷ ts in
-        let is_final : Bool = (final_at ts).0 in
-        let r : List Spelled = (final_at ts).1 in
         let G : Stmt × List Spelled → Type 0 = GotStmt (suc n) all in
-        then_ensures _ G (readers.ty n r) _ (sound.ty n r)
+        then_ensures (Taken FormedVariableModifiers modifiers_onto ts) G (before_type_at ts) _ (before_type_sound ts)
+        (λ ms f. then_ensures _ G (readers.ty n ms.1) _ (sound.ty n ms.1)
         (λ t g. match_ensures (λ x. t.1 ≡ identifier x.0 ∷ sign (codes ":") ∷ x.1) G (name_and_colon t.1) _ _
         (name_and_colon_taken t.1)
-        (then_ensures _ G (variables_at readers n is_final t.0 t.1) _ (declared_sound readers sound n is_final ts r
-        (final_taken ts) t g)
+        (then_ensures _ G (variables_at readers n ms.0 t.0 t.1) _ (declared_sound readers sound n ms.0 ts ms.1
+        f.formed f.spelled t g)
         (λ l h. from_sound (Declares l.0) all l.1 h.formed h.small (ap (λ (u : List Spelled). keyword (codes "for")
         ∷ sign (codes "(") ∷ u) h.spelled)))
-        (λ x d. each_sound is_final t.0 x.0 all x.1 g.formed g.small
-        (ap (λ (u : List Spelled). keyword (codes "for") ∷ sign (codes "(") ∷ u) (final_taken ts
-        ∙ ap (final_onto is_final) (g.spelled ∙ ap (ty_onto t.0) d)))))
+        (λ x d. each_sound ms.0 t.0 x.0 all x.1 f.formed g.formed g.small
+        (ap (λ (u : List Spelled). keyword (codes "for") ∷ sign (codes "(") ∷ u) (f.spelled
+        ∙ ap (modifiers_onto ms.0) (g.spelled ∙ ap (ty_onto t.0) d))))))
 
     run_head_sound : (ts : List Spelled) → Ensures (GotStmt (suc n) (keyword (codes "for") ∷ sign (codes "(") ∷ ts))
         (for_run readers read n ts)

@@ -1,24 +1,40 @@
 -- Arguments, lengths and items that are read are formed, small, and spelled by what was taken.
-use Rattle.std.proofs.Common.{◌≡◌, ℕ, zero, suc, ◌≤◌, Bool, List, ◌∷◌, length, refl, ap, ◌∙◌, arith, codes}
+use Rattle.std.proofs.Common.{◌≡◌, ℕ, zero, suc, ◌≤◌, Bool, true, IsTrue, List, ◌∷◌, length, refl, ap, ◌∙◌, arith}
+use Rattle.std.proofs.Common.{codes}
 use Rattle.java_tree.specs.declared.words.Spelled.{Spelled}
 use Rattle.java_tree.specs.Words.{sign}
 use Rattle.java_tree.specs.Trees.{Expr, Array, Init, pack_exprs, pack_inits}
 use Rattle.java_tree.specs.Spelling.{last_comma_onto, expr_onto, exprs_onto, more_exprs_onto, lengths_onto}
 use Rattle.java_tree.specs.Spelling.{array_onto, more_inits_onto, init_onto}
-use Rattle.java_tree.specs.Formed.{level, FormedExpr, FormedExprs, FormedArray, FormedInits, FormedInit}
+use Rattle.java_tree.specs.Formed.{level, ends_open, is_lambda, FormedExpr, FormedExprs, FormedArray, FormedInits}
+use Rattle.java_tree.specs.Formed.{FormedInit}
 use Rattle.java_tree.specs.Nesting.{expr_nesting, exprs_nesting, array_nesting, inits_nesting, init_nesting}
 use Rattle.java_parser_grammar.specs.Taking.{after_sign, commas}
 use Rattle.java_parser_grammar.specs.TypeReading.{after_brackets}
-use Rattle.java_parser_grammar.specs.ExpressionReading.{Reading, call_arguments_with, lengths_with, init_with}
+use Rattle.java_parser_grammar.specs.Leads.{pull, begins_lambda}
+use Rattle.java_parser_grammar.specs.BalancedReading.{Reading}
+use Rattle.java_parser_grammar.specs.ExpressionReading.{call_arguments_with, lengths_with, init_with}
 use Rattle.java_parser_grammar.specs.ExpressionReading.{items_with}
 use Rattle.java_parser_grammar.specs.ExpressionReading.{braces_with}
 use Rattle.java_parser_grammar.proofs.Ensuring.{Ensures, then_ensures, match_ensures, sign_taken, brackets_taken}
 
+-- an expression that is as far as it was read
+pub record Grown (n l : ℕ) (ts : List Spelled) (x : Expr × List Spelled) : Type 0 where
+  pub formed : FormedExpr x.0
+  pub high : l ≤ 12 → l ≤ level x.0
+  pub small : expr_nesting x.0 ≤ n
+  pub spelled : ts ≡ expr_onto x.0 x.1
+  -- nothing goes on with the expression of a lambda at its end
+  pub shut : IsTrue (ends_open x.0) → pull x.1 ≤ 0
+
+-- a whole one, which is a lambda where one begins
 pub record Got (n l : ℕ) (ts : List Spelled) (x : Expr × List Spelled) : Type 0 where
   pub formed : FormedExpr x.0
   pub high : l ≤ 12 → l ≤ level x.0
   pub small : expr_nesting x.0 ≤ n
   pub spelled : ts ≡ expr_onto x.0 x.1
+  pub shut : IsTrue (ends_open x.0) → pull x.1 ≤ 0
+  pub lambda : begins_lambda ts ≡ true → is_lambda x.0 ≡ true
 
 -- expressions behind commas
 pub record GotMore (n : ℕ) (ts : List Spelled) (x : List Expr × List Spelled) : Type 0 where

@@ -1,23 +1,29 @@
 -- What is read of the parts of statements is formed, small, and spells what was taken.
-use Rattle.std.proofs.Common.{◌≡◌, ℕ, ◌≤◌, max, Bool, true, false, List, [], ◌∷◌, Option, Some, None, codes, refl, ap}
+use Rattle.std.proofs.Common.{◌≡◌, ℕ, ◌≤◌, max, List, [], ◌∷◌, length, Option, Some, None, codes, refl, ap}
 use Rattle.std.proofs.Common.{◌∙◌, arith}
 use Rattle.java_tree.specs.declared.words.Spelled.{Spelled}
-use Rattle.java_tree.specs.Words.{keyword, identifier, sign}
+use Rattle.java_tree.specs.Words.{identifier, sign}
 use Rattle.java_tree.specs.Operators.{conditional_level}
-use Rattle.java_tree.specs.Trees.{Ty, Expr, pack_exprs, Variable, Locals}
-use Rattle.java_tree.specs.Spelling.{behind_commas, commas_onto, final_onto, ty_onto, expr_onto, exprs_onto}
-use Rattle.java_tree.specs.Spelling.{more_exprs_onto, maybe_expr_onto, init_onto, variable_onto, locals_onto}
-use Rattle.java_tree.specs.Formed.{Each, FormedTy, FormedExpr, FormedMaybeExpr, FormedRun, FormedRuns, FormedInit}
+use Rattle.java_tree.specs.Trees.{Ty, Expr, pack_exprs, Modifier, Variable, Locals}
+use Rattle.java_tree.specs.Spelling.{behind_commas, commas_onto, brackets_onto, ty_onto, expr_onto, exprs_onto}
+use Rattle.java_tree.specs.Spelling.{more_exprs_onto, maybe_expr_onto, init_onto, modifiers_onto, variable_onto}
+use Rattle.java_tree.specs.Spelling.{locals_onto}
+use Rattle.java_tree.specs.FormedModifiers.{Each, FormedVariableModifiers}
+use Rattle.java_tree.specs.Formed.{FormedTy, FormedExpr, FormedMaybeExpr, FormedRun, FormedRuns, FormedInit}
 use Rattle.java_tree.specs.Formed.{FormedVariable, FormedLocals, is_run, level}
 use Rattle.java_tree.specs.Nesting.{most_over, ty_nesting, expr_nesting, exprs_nesting, maybe_expr_nesting}
 use Rattle.java_tree.specs.Nesting.{init_nesting, variable_nesting, locals_nesting}
-use Rattle.java_parser_grammar.specs.Taking.{match_option, after_sign, after_keyword, after_name}
+use Rattle.java_parser_grammar.specs.Taking.{after_sign, after_name}
+use Rattle.java_parser_grammar.specs.TypeReading.{brackets_at}
+use Rattle.java_parser_grammar.specs.BalancedReading.{before_type_at}
 use Rattle.java_parser_grammar.specs.Readers.{Readers}
-use Rattle.java_parser_grammar.specs.Lookahead.{begins_with}
-use Rattle.java_parser_grammar.specs.StatementReading.{comma_list, final_at, variable_at, variables_at, locals_at}
+use Rattle.java_parser_grammar.specs.Leads.{begins_with}
+use Rattle.java_parser_grammar.specs.StatementReading.{comma_list, variable_at, variables_at, locals_at}
 use Rattle.java_parser_grammar.specs.StatementReading.{condition_at, expr_until, run_at, runs_until}
 use Rattle.java_parser_grammar.proofs.Ensuring.{Ensures, weaker, then_ensures, if_ensures, match_ensures, sign_taken}
-use Rattle.java_parser_grammar.proofs.Ensuring.{keyword_taken, name_taken}
+use Rattle.java_parser_grammar.proofs.Ensuring.{name_taken, brackets_are}
+use Rattle.java_parser_grammar.proofs.SoundTokens.{Taken}
+use Rattle.java_parser_grammar.proofs.SoundAnnotations.{before_type_sound}
 use Rattle.java_parser_grammar.proofs.SoundSteps.{GotOne, SomeOf, list_sound}
 
 -- what readers must give: what they read is formed, small, and spells what was taken
@@ -28,19 +34,6 @@ pub record AreSound (readers : Readers) : Type 0 where
       expr_nesting expr_onto n ts) (readers.expr n conditional_level ts)
   pub ty : (n : ℕ) (ts : List Spelled) → Ensures (GotOne FormedTy ty_nesting ty_onto n ts) (readers.ty n ts)
   pub init : (n : ℕ) (ts : List Spelled) → Ensures (GotOne FormedInit init_nesting init_onto n ts) (readers.init n ts)
-
--- ---- `final`
-
-abbrev final_from : List Spelled → Option (List Spelled) → Bool × List Spelled
-final_from ts o = match_option o (false, ts) (λ r. (true, r))
-
-final_by : (ts : List Spelled) (o : Option (List Spelled)) → Ensures (λ r. ts ≡ keyword (codes "final") ∷ r) o
-    → ts ≡ final_onto (final_from ts o).0 (final_from ts o).1
-final_by ts None e = refl
-final_by ts (Some r) e = e
-
-pub final_taken : (ts : List Spelled) → ts ≡ final_onto (final_at ts).0 (final_at ts).1
-final_taken ts = final_by ts (after_keyword (codes "final") ts) (keyword_taken (codes "final") ts)
 
 -- ---- expressions that are run
 
@@ -69,14 +62,18 @@ module _ (readers : Readers) (sound : AreSound readers) where
   variable_sound n ts =
       let G : Variable × List Spelled → Type 0 = GotOne FormedVariable variable_nesting variable_onto n ts in
       then_ensures (λ x. ts ≡ identifier x.0 ∷ x.1) G (after_name ts) _ (name_taken ts)
-      (λ x e. match_ensures (λ r. x.1 ≡ sign (codes "=") ∷ r) G (after_sign (codes "=") x.1) _ _
-      (sign_taken (codes "=") x.1) (record { formed = tt; small = omega arith; spelled = e })
+      (λ x e.
+      let m = brackets_at (length x.1) x.1 in
+      let named : ts ≡ identifier x.0 ∷ brackets_onto m.0 m.1 =
+      e ∙ ap (λ (s : List Spelled). identifier x.0 ∷ s) (brackets_are (length x.1) x.1) in
+      match_ensures (λ r. m.1 ≡ sign (codes "=") ∷ r) G (after_sign (codes "=") m.1) _ _
+      (sign_taken (codes "=") m.1) (record { formed = tt; small = omega arith; spelled = named })
       (λ r d. then_ensures (GotOne FormedInit init_nesting init_onto n r) G (readers.init n r) _ (sound.init n r)
       (λ i g. record {
         formed = g.formed;
         small = g.small;
-        spelled = e ∙ ap (λ (s : List Spelled). identifier x.0 ∷ s) (d ∙ ap (λ (s : List Spelled). sign (codes "=")
-            ∷ s) g.spelled);
+        spelled = named ∙ ap (λ (s : List Spelled). identifier x.0 ∷ brackets_onto m.0 s) (d
+            ∙ ap (λ (s : List Spelled). sign (codes "=") ∷ s) g.spelled);
       })))
 
   -- variables with commas between them
@@ -87,29 +84,29 @@ module _ (readers : Readers) (sound : AreSound readers) where
       list_sound FormedVariable variable_nesting variable_onto n (variable_at readers n) (variable_sound n)
 
   -- a declaration from behind its type on
-  pub declared_sound : (n : ℕ) (is_final : Bool) (ts r : List Spelled) → ts ≡ final_onto is_final r
-      → (t : Ty × List Spelled) → GotOne FormedTy ty_nesting ty_onto n r t
-      → Ensures (GotOne FormedLocals locals_nesting locals_onto n ts) (variables_at readers n is_final t.0 t.1)
+  pub declared_sound : (n : ℕ) (ms : List Modifier) (ts r : List Spelled) → FormedVariableModifiers ms
+      → ts ≡ modifiers_onto ms r → (t : Ty × List Spelled) → GotOne FormedTy ty_nesting ty_onto n r t
+      → Ensures (GotOne FormedLocals locals_nesting locals_onto n ts) (variables_at readers n ms t.0 t.1)
   unfolding variables_at
-  declared_sound n is_final ts r e t g =
+  declared_sound n ms ts r f e t g =
       let G : Locals × List Spelled → Type 0 = GotOne FormedLocals locals_nesting locals_onto n ts in
       then_ensures (GotOne (SomeOf FormedVariable) (most_over variable_nesting) (commas_onto variable_onto) n t.1) G
       (comma_list (variable_at readers n) t.1) _
       (listed_sound n t.1)
       (λ vs h. record {
-        formed = (g.formed, h.formed.0, h.formed.1);
+        formed = (f, g.formed, h.formed.0, h.formed.1);
         small = omega (arith, g.small, h.small);
-        spelled = e ∙ ap (final_onto is_final) (g.spelled ∙ ap (ty_onto t.0) h.spelled);
+        spelled = e ∙ ap (modifiers_onto ms) (g.spelled ∙ ap (ty_onto t.0) h.spelled);
       })
 
   pub locals_sound : (n : ℕ) (ts : List Spelled) → Ensures (GotOne FormedLocals locals_nesting locals_onto n ts)
       (locals_at readers n ts)
   unfolding locals_at
   locals_sound n ts =
-      let r : List Spelled = (final_at ts).1 in
-      then_ensures (GotOne FormedTy ty_nesting ty_onto n r) (GotOne FormedLocals locals_nesting locals_onto n ts)
-      (readers.ty n r) _ (sound.ty n r)
-      (λ t g. declared_sound n (final_at ts).0 ts r (final_taken ts) t g)
+      let G : Locals × List Spelled → Type 0 = GotOne FormedLocals locals_nesting locals_onto n ts in
+      then_ensures (Taken FormedVariableModifiers modifiers_onto ts) G (before_type_at ts) _ (before_type_sound ts)
+      (λ ms f. then_ensures (GotOne FormedTy ty_nesting ty_onto n ms.1) G (readers.ty n ms.1) _ (sound.ty n ms.1)
+      (λ t g. declared_sound n ms.0 ts ms.1 f.formed f.spelled t g))
 
   -- ---- expressions
 

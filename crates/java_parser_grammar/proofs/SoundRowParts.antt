@@ -5,23 +5,29 @@ use Rattle.java_tree.specs.declared.words.Spelled.{Spelled}
 use Rattle.java_tree.specs.Words.{keyword, identifier, sign}
 use Rattle.java_tree.specs.Operators.{conditional_level}
 use Rattle.java_tree.specs.Trees.{Ty, Expr, Resource, Resources, CatchParameter, Label}
-use Rattle.java_tree.specs.Spelling.{final_onto, ty_onto, expr_onto, resource_onto, more_resources_onto}
-use Rattle.java_tree.specs.Spelling.{last_semicolon_onto, maybe_resources_onto, behind_bars, catch_parameter_onto}
+use Rattle.java_tree.specs.Spelling.{ty_onto, between_sign, modifiers_onto, expr_onto, resource_onto}
+use Rattle.java_tree.specs.Spelling.{more_resources_onto}
+use Rattle.java_tree.specs.Spelling.{last_semicolon_onto, maybe_resources_onto, catch_parameter_onto}
 use Rattle.java_tree.specs.Spelling.{label_onto, labels_onto, maybe_name_onto, maybe_behind_onto}
-use Rattle.java_tree.specs.Formed.{Each, FormedMaybeExpr, FormedThrown, FormedResource}
+use Rattle.java_tree.specs.FormedModifiers.{Each, FormedVariableModifiers}
+use Rattle.java_tree.specs.Formed.{FormedMaybeExpr, FormedThrown, FormedResource}
 use Rattle.java_tree.specs.Formed.{FormedMaybeResources, FormedCatchParameter, FormedLabel, is_named}
 use Rattle.java_tree.specs.Nesting.{most_over, ty_nesting, maybe_expr_nesting, resource_nesting}
 use Rattle.java_tree.specs.Nesting.{maybe_resources_nesting, catch_parameter_nesting, label_nesting}
 use Rattle.java_parser_grammar.specs.Taking.{after_sign, after_keyword, after_name}
+use Rattle.java_parser_grammar.specs.TypeReading.{between_each}
+use Rattle.java_parser_grammar.specs.BalancedReading.{before_type_at}
 use Rattle.java_parser_grammar.specs.Readers.{Readers}
-use Rattle.java_parser_grammar.specs.StatementReading.{final_at, maybe_name_at, maybe_behind_at, resource_at}
-use Rattle.java_parser_grammar.specs.StatementReading.{more_resources_at, maybe_resources_at, named_at, bars_at}
+use Rattle.java_parser_grammar.specs.StatementReading.{maybe_name_at, maybe_behind_at, resource_at}
+use Rattle.java_parser_grammar.specs.StatementReading.{more_resources_at, maybe_resources_at, named_at}
 use Rattle.java_parser_grammar.specs.StatementReading.{catch_parameter_at, begins_label, label_at, labels_at}
 use Rattle.java_parser_grammar.proofs.Ensuring.{Ensures, then_ensures, if_ensures, match_ensures, sign_taken}
 use Rattle.java_parser_grammar.proofs.Ensuring.{keyword_taken, name_taken}
 use Rattle.java_parser_grammar.proofs.LongerStatements.{label_longer}
-use Rattle.java_parser_grammar.proofs.SoundParts.{AreSound, final_taken}
-use Rattle.java_parser_grammar.proofs.SoundSteps.{GotOne}
+use Rattle.java_parser_grammar.proofs.SoundParts.{AreSound}
+use Rattle.java_parser_grammar.proofs.SoundTokens.{Taken}
+use Rattle.java_parser_grammar.proofs.SoundAnnotations.{before_type_sound}
+use Rattle.java_parser_grammar.proofs.SoundSteps.{GotOne, SomeOf, between_sound}
 
 -- resources behind the first one, whether a last `;` stands, and the `)`
 record GotMore (n : ℕ) (ts : List Spelled) (x : (List Resource × Bool) × List Spelled) : Type 0 where
@@ -58,21 +64,20 @@ module _ (readers : Readers) (sound : AreSound readers) where
       (resource_at readers n ts)
   unfolding resource_at
   resource_sound n ts =
-      let is_final : Bool = (final_at ts).0 in
-      let r : List Spelled = (final_at ts).1 in
       let G : Resource × List Spelled → Type 0 = GotOne FormedResource resource_nesting resource_onto n ts in
-      then_ensures _ G (readers.ty n r) _ (sound.ty n r)
+      then_ensures (Taken FormedVariableModifiers modifiers_onto ts) G (before_type_at ts) _ (before_type_sound ts)
+      (λ ms f. then_ensures _ G (readers.ty n ms.1) _ (sound.ty n ms.1)
       (λ t g. then_ensures (λ x. t.1 ≡ identifier x.0 ∷ x.1) G (after_name t.1) _ (name_taken t.1)
       (λ x d. then_ensures (λ a. x.1 ≡ sign (codes "=") ∷ a) G (after_sign (codes "=") x.1) _
       (sign_taken (codes "=") x.1)
       (λ a c. then_ensures _ G (readers.expr n 0 a) _ (sound.expr n a)
       (λ e h. record {
-        formed = (g.formed, h.formed);
+        formed = (f.formed, g.formed, h.formed);
         small = omega (arith, g.small, h.small);
-        spelled = final_taken ts ∙ ap (final_onto is_final) (g.spelled ∙ ap (ty_onto t.0) (d
+        spelled = f.spelled ∙ ap (modifiers_onto ms.0) (g.spelled ∙ ap (ty_onto t.0) (d
             ∙ ap (λ (u : List Spelled). identifier x.0 ∷ u) (c ∙ ap (λ (u : List Spelled). sign (codes "=") ∷ u)
             h.spelled)));
-      }))))
+      })))))
 
   more_sound : (n m : ℕ) (ts : List Spelled) → Ensures (GotMore n ts) (more_resources_at readers n m ts)
   unfolding more_resources_at
@@ -128,22 +133,6 @@ module _ (readers : Readers) (sound : AreSound readers) where
         spelled = g.spelled;
       }) (λ other. tt))
 
-  bars_sound : (n m : ℕ) (ts : List Spelled) → Ensures (GotOne (Each FormedThrown) (most_over ty_nesting) behind_bars
-      n ts) (bars_at readers n m ts)
-  unfolding bars_at
-  bars_sound n zero ts = record { formed = tt; small = omega arith; spelled = refl }
-  bars_sound n (suc m) ts =
-      let G : List Ty × List Spelled → Type 0 = GotOne (Each FormedThrown) (most_over ty_nesting) behind_bars n ts in
-      match_ensures (λ r. ts ≡ sign (codes "|") ∷ r) G (after_sign (codes "|") ts) _ _ (sign_taken (codes "|") ts)
-      (record { formed = tt; small = omega arith; spelled = refl })
-      (λ r e. then_ensures _ G (named_at readers n r) _ (named_sound n r)
-      (λ t g. then_ensures _ G (bars_at readers n m t.1) _ (bars_sound n m t.1)
-      (λ others h. record {
-        formed = (g.formed, h.formed);
-        small = omega (arith, g.small, h.small);
-        spelled = e ∙ ap (λ (u : List Spelled). sign (codes "|") ∷ u) (g.spelled ∙ ap (ty_onto t.0) h.spelled);
-      })))
-
   pub parameter_sound : (n : ℕ) (ts : List Spelled) → Ensures (GotOne FormedCatchParameter catch_parameter_nesting
       catch_parameter_onto n ts) (catch_parameter_at readers n ts)
   unfolding catch_parameter_at
@@ -151,17 +140,19 @@ module _ (readers : Readers) (sound : AreSound readers) where
       let G : CatchParameter × List Spelled → Type 0 =
       GotOne FormedCatchParameter catch_parameter_nesting catch_parameter_onto n ts in
       then_ensures (λ r. ts ≡ sign (codes "(") ∷ r) G (after_sign (codes "(") ts) _ (sign_taken (codes "(") ts)
-      (λ r e. then_ensures _ G (named_at readers n (final_at r).1) _ (named_sound n (final_at r).1)
-      (λ t g. then_ensures _ G (bars_at readers n (length t.1) t.1) _ (bars_sound n (length t.1) t.1)
-      (λ others h. then_ensures (λ x. others.1 ≡ identifier x.0 ∷ x.1) G (after_name others.1) _ (name_taken others.1)
+      (λ r e. then_ensures (Taken FormedVariableModifiers modifiers_onto r) G (before_type_at r) _ (before_type_sound r)
+      (λ ms f. then_ensures (GotOne (SomeOf FormedThrown) (most_over ty_nesting) (between_sign (codes "|")) n ms.1) G
+      (between_each (codes "|") (named_at readers n) ms.1) _
+      (between_sound FormedThrown n (named_at readers n) (named_sound n) (codes "|") ms.1)
+      (λ types g. then_ensures (λ x. types.1 ≡ identifier x.0 ∷ x.1) G (after_name types.1) _ (name_taken types.1)
       (λ x d. then_ensures (λ s. x.1 ≡ sign (codes ")") ∷ s) G (after_sign (codes ")") x.1) _
       (sign_taken (codes ")") x.1)
       (λ s c. record {
-        formed = (refl, (g.formed, h.formed));
-        small = omega (arith, g.small, h.small);
-        spelled = e ∙ ap (λ (u : List Spelled). sign (codes "(") ∷ u) (final_taken r ∙ ap (final_onto (final_at r).0)
-            (g.spelled ∙ ap (ty_onto t.0) (h.spelled ∙ ap (behind_bars others.0) (d
-            ∙ ap (λ (u : List Spelled). identifier x.0 ∷ u) c))));
+        formed = (f.formed, g.formed.0, g.formed.1);
+        small = g.small;
+        spelled = e ∙ ap (λ (u : List Spelled). sign (codes "(") ∷ u) (f.spelled ∙ ap (modifiers_onto ms.0)
+            (g.spelled ∙ ap (between_sign (codes "|") types.0) (d ∙ ap (λ (u : List Spelled). identifier x.0 ∷ u)
+            c)));
       })))))
 
   -- ---- labels

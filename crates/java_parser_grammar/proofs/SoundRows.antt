@@ -13,12 +13,13 @@ use Rattle.java_tree.specs.Spelling.{expr_onto, maybe_expr_onto, stmt_onto, stmt
 use Rattle.java_tree.specs.Spelling.{several_onto, groups_onto, labels_onto, maybe_name_onto, maybe_behind_onto}
 use Rattle.java_tree.specs.Spelling.{maybe_resources_onto, catch_parameter_onto}
 use Rattle.java_tree.specs.Formed.{FormedStmts, FormedGroups, Fits, EachFits, go_on, is_joining, are_left_out}
-use Rattle.java_tree.specs.Formed.{some_stands, has_some, has_stmt, has_group}
+use Rattle.java_tree.specs.FormedModifiers.{has_some}
+use Rattle.java_tree.specs.Formed.{some_stands, has_stmt, has_group}
 use Rattle.java_tree.specs.Nesting.{stmts_nesting, block_nesting, pieces_nesting, several_nesting, groups_nesting}
 use Rattle.java_tree.specs.Rows.{AKeyword, ASign, AnExpr, Until, MaybeName, MaybeBehind, ACondition, ABody, ABlock}
 use Rattle.java_tree.specs.Rows.{ASwitch, MaybeResources, ACatchParameter, Again, Perhaps, SomePart, Slots, no_slot}
 use Rattle.java_tree.specs.Rows.{◌▹◌, is_row, row_of}
-use Rattle.java_parser_grammar.specs.ExpressionReading.{Reading}
+use Rattle.java_parser_grammar.specs.BalancedReading.{Reading}
 use Rattle.java_parser_grammar.specs.Taking.{after_sign, after_keyword}
 use Rattle.java_parser_grammar.specs.Readers.{Readers}
 use Rattle.java_parser_grammar.specs.StatementReading.{condition_at, expr_until, body_at, pieces_at, row_at, again_at}

@@ -11,13 +11,16 @@ use Rattle.java_tree.specs.Spelling.{expr_onto, locals_onto, block_onto}
 use Rattle.java_tree.specs.Formed.{FormedStmts}
 use Rattle.java_tree.specs.Nesting.{block_nesting}
 use Rattle.java_tree.specs.Rows.{is_row}
-use Rattle.java_parser_grammar.specs.ExpressionReading.{Reading}
-use Rattle.java_parser_grammar.specs.Taking.{◌>>=◌, match_option, is_keyword, is_keyword_kind, after_sign}
+use Rattle.java_parser_grammar.specs.BalancedReading.{Reading}
+use Rattle.java_tree.specs.Brackets.{is_keyword, is_keyword_kind}
+use Rattle.java_parser_grammar.specs.Taking.{◌>>=◌, match_option, after_sign}
 use Rattle.java_parser_grammar.specs.Readers.{Readers}
 use Rattle.java_parser_grammar.specs.Lookahead.{looks_local, name_and_colon, StatementLead, Semicolon, Brace, IfWord}
-use Rattle.java_parser_grammar.specs.Lookahead.{ForWord, RowWord, LabelWord, Other, statement_lead, begins_row}
+use Rattle.java_parser_grammar.specs.Lookahead.{ForWord, RowWord, LabelWord, ClassWord, Other, begins_class}
+use Rattle.java_parser_grammar.specs.Lookahead.{statement_lead, begins_row}
 use Rattle.java_parser_grammar.specs.StatementReading.{locals_at, run_at, braces_at, local_at, run_line_at, by_lead}
-use Rattle.java_parser_grammar.specs.StatementReading.{stmt_at, block_at}
+use Rattle.java_parser_grammar.specs.StatementReading.{local_class_at, stmt_at, block_at}
+use Rattle.java_parser_grammar.proofs.SoundTokens.{GotClass, local_class_sound}
 use Rattle.java_parser_grammar.proofs.Taken.{sign_is}
 use Rattle.java_parser_grammar.proofs.Ensuring.{Ensures, weaker, then_ensures, if_ensures, keyword_is, sign_taken}
 use Rattle.java_parser_grammar.proofs.SoundSteps.{GotOne}
@@ -36,6 +39,7 @@ LeadIs ts (IfWord r) = ts ≡ keyword (codes "if") ∷ r
 LeadIs ts (ForWord r) = ts ≡ keyword (codes "for") ∷ r
 LeadIs ts (RowWord word r) = (ts ≡ keyword word ∷ r) × IsTrue (is_row word)
 LeadIs ts (LabelWord x r) = ts ≡ identifier x ∷ sign (codes ":") ∷ r
+LeadIs ts (ClassWord r) = ts ≡ r
 LeadIs ts Other = Unit {0}
 
 row_word_is : (t : Spelled) → begins_row t ≡ true → (t ≡ keyword t.text) × IsTrue (is_row t.text)
@@ -71,7 +75,8 @@ lead_is (t ∷ ts) =
     (keyword_is (codes "if") t h))
     (if_leads (t ∷ ts) (is_keyword (codes "for") t) (ForWord ts) _ (λ h. ap (λ (u : Spelled). u ∷ ts)
     (keyword_is (codes "for") t h))
-    (label_leads (t ∷ ts) (name_and_colon (t ∷ ts)) (name_and_colon_taken (t ∷ ts)))))))
+    (if_leads (t ∷ ts) (begins_class (t ∷ ts)) (ClassWord (t ∷ ts)) _ (λ h. refl)
+    (label_leads (t ∷ ts) (name_and_colon (t ∷ ts)) (name_and_colon_taken (t ∷ ts))))))))
 
 module _ (readers : Readers) (sound : AreSound readers) where
   local_sound : (n : ℕ) (ts : List Spelled) → Ensures (GotStmt (suc n) ts) (local_at readers n ts)
@@ -128,6 +133,14 @@ module _ (readers : Readers) (sound : AreSound readers) where
     by_lead_sound (ForWord r) ts e = rw e (for_sound readers sound n read inside r)
     by_lead_sound (RowWord word r) ts e = rw e.0 (row_sound readers sound n read block inside blocks word e.1 r)
     by_lead_sound (LabelWord x r) ts e = rw e (labelled_sound readers sound n read inside x r)
+    by_lead_sound (ClassWord r) ts e =
+        rw e (then_ensures (GotClass r) (GotStmt (suc n) r) (local_class_at r) _ (local_class_sound r)
+        (λ c g. record {
+          formed = g.formed;
+          small = omega arith;
+          spelled = g.spelled;
+          bears = λ w j. never_else false refl;
+        }))
     by_lead_sound Other ts e = if_ensures (GotStmt (suc n) ts) (looks_local ts) _ _ (λ local. local_sound n ts)
         (λ other. run_line_sound n ts)
 

@@ -1,5 +1,5 @@
 -- A type that is read is formed, small, and spelled by what was taken.
-use Rattle.std.proofs.Common.{◌≡◌, ℕ, zero, suc, ◌≤◌, true, false, List, [], ◌∷◌, length, Option}
+use Rattle.std.proofs.Common.{◌≡◌, ℕ, zero, suc, ◌≤◌, false, List, [], ◌∷◌, length, Option}
 use Rattle.std.proofs.Common.{IsTrue, refl, ap, ◌∙◌, arith, codes}
 use Rattle.std.proofs.lemmas.Bool.{false≢true, or_parts}
 use Rattle.java_tree.specs.declared.words.Spelled.{Spelled}
@@ -9,14 +9,15 @@ use Rattle.java_tree.specs.Trees.{Arguments, Angled, no_argument, argument_then,
 use Rattle.java_tree.specs.Trees.{pack_arguments}
 use Rattle.java_tree.specs.Spelling.{ty_onto, base_onto, parts_onto, more_parts_onto, part_onto, angled_onto}
 use Rattle.java_tree.specs.Spelling.{more_arguments_onto, argument_onto}
-use Rattle.java_tree.specs.Formed.{has_part, is_bare_part, are_bare_parts, is_bare, FormedTy, FormedBase, FormedParts}
+use Rattle.java_tree.specs.Formed.{has_part, FormedTy, FormedBase, FormedParts}
 use Rattle.java_tree.specs.Formed.{FormedPart, FormedAngled, FormedArguments, FormedArgument, FormedLastPart}
 use Rattle.java_tree.specs.Formed.{FormedClassParts}
 use Rattle.java_tree.specs.Nesting.{ty_nesting, base_nesting, parts_nesting, part_nesting, angled_nesting}
 use Rattle.java_tree.specs.Nesting.{arguments_nesting, argument_nesting}
 use Rattle.java_parser_grammar.specs.Taking.{after_sign, after_keyword, after_name, after_angle, commas}
 use Rattle.java_parser_grammar.specs.TypeReading.{after_plain, points, wildcard_with, argument_with, angled_with}
-use Rattle.java_parser_grammar.specs.TypeReading.{part_with, base_with, arrays_behind, ty_at, bare_part_at, bare_ty_at}
+use Rattle.java_parser_grammar.specs.TypeReading.{part_with, base_with, arrays_behind, ty_at, after_less}
+use Rattle.java_parser_grammar.specs.TypeReading.{closes_angle, tested_part_with, tested_ty_at}
 use Rattle.java_parser_grammar.specs.TypeReading.{is_diamond, have_diamond, has_diamond, made_part_with}
 use Rattle.java_parser_grammar.specs.TypeReading.{made_parts_with}
 use Rattle.java_parser_grammar.specs.TypeReading.{made_base_with, made_base_at}
@@ -45,32 +46,20 @@ pub record GotAngled (n : ℕ) (ts : List Spelled) (x : Arguments × List Spelle
   pub small : angled_nesting x.0 ≤ n
   pub spelled : sign (codes "<") ∷ ts ≡ angled_onto x.0 x.1
 
--- a part, of which P holds too
-pub record GotPart (P : Part → Type 0) (n : ℕ) (ts : List Spelled) (x : Part × List Spelled) : Type 0 where
+pub record GotPart (n : ℕ) (ts : List Spelled) (x : Part × List Spelled) : Type 0 where
   pub formed : FormedPart x.0
   pub small : part_nesting x.0 ≤ n
   pub spelled : ts ≡ part_onto x.0 x.1
-  pub also : P x.0
 
-abbrev pub AllParts : (Part → Type 0) → Parts → Type 0
-AllParts P no_part = Unit {0}
-AllParts P (part_then p ps) = P p × AllParts P ps
-
-abbrev pub OfBase : (Part → Type 0) → Base → Type 0
-OfBase P (Plain text) = Unit {0}
-OfBase P (Named ps) = AllParts P ps
-
-pub record GotParts (P : Part → Type 0) (n : ℕ) (ts : List Spelled) (x : List Part × List Spelled) : Type 0 where
+pub record GotParts (n : ℕ) (ts : List Spelled) (x : List Part × List Spelled) : Type 0 where
   pub formed : FormedParts (pack_parts x.0)
   pub small : parts_nesting (pack_parts x.0) ≤ n
   pub spelled : ts ≡ more_parts_onto (pack_parts x.0) x.1
-  pub also : AllParts P (pack_parts x.0)
 
-pub record GotBase (P : Part → Type 0) (n : ℕ) (ts : List Spelled) (x : Base × List Spelled) : Type 0 where
+pub record GotBase (n : ℕ) (ts : List Spelled) (x : Base × List Spelled) : Type 0 where
   pub formed : FormedBase x.0
   pub small : base_nesting x.0 ≤ n
   pub spelled : ts ≡ base_onto x.0 x.1
-  pub also : OfBase P x.0
 
 -- ---- type arguments and parts
 
@@ -122,7 +111,7 @@ module _ (n : ℕ) (read : List Spelled → Option (Ty × List Spelled)) (sound 
             ∙ ap (λ (u : List Spelled). sign (codes ",") ∷ u) (g.spelled ∙ ap (argument_onto a.0) h.spelled);
       })))
 
-  angled_sound : (ts : List Spelled) → Ensures (GotAngled n ts) (angled_with read ts)
+  pub angled_sound : (ts : List Spelled) → Ensures (GotAngled n ts) (angled_with read ts)
   unfolding angled_with
   angled_sound ts =
       then_ensures (GotArgument n ts) (GotAngled n ts) (argument_with read ts) _ (argument_sound ts)
@@ -136,20 +125,19 @@ module _ (n : ℕ) (read : List Spelled → Option (Ty × List Spelled)) (sound 
             ∙ ap (more_arguments_onto (pack_arguments others.0)) k));
       })))
 
-  pub part_sound : (ts : List Spelled) → Ensures (GotPart (λ p. Unit {0}) n ts) (part_with read ts)
+  pub part_sound : (ts : List Spelled) → Ensures (GotPart n ts) (part_with read ts)
   unfolding part_with
   part_sound ts =
-      let G : Part × List Spelled → Type 0 = GotPart (λ p. Unit {0}) n ts in
+      let G : Part × List Spelled → Type 0 = GotPart n ts in
       then_ensures _ G (after_name ts) _ (name_taken ts)
       (λ x e. match_ensures _ G (after_sign (codes "<") x.1) _ _ (sign_taken (codes "<") x.1)
-      (record { formed = tt; small = omega arith; spelled = e; also = tt })
+      (record { formed = tt; small = omega arith; spelled = e })
       (λ r f. then_ensures (GotAngled n r) G (angled_with read r) _ (angled_sound r)
       (λ a g. record {
         formed = g.formed;
         small = g.small;
         spelled = e ∙ ap (λ (u : List Spelled). identifier x.0 ∷ u)
             (f ∙ g.spelled);
-        also = tt;
       })))
 
   -- ---- what a `new` makes
@@ -230,45 +218,43 @@ module _ (n : ℕ) (read : List Spelled → Option (Ty × List Spelled)) (sound 
 
 -- ---- parts with points between them
 
-module _ (P : Part → Type 0) (n : ℕ) (read : List Spelled → Option (Part × List Spelled)) (sound : (ts : List Spelled)
-    → Ensures (GotPart P n ts) (read ts)) where
-  parts_sound : (m : ℕ) (ts : List Spelled) → Ensures (GotParts P n ts) (points read m ts)
+module _ (n : ℕ) (read : List Spelled → Option (Part × List Spelled)) (sound : (ts : List Spelled)
+    → Ensures (GotPart n ts) (read ts)) where
+  parts_sound : (m : ℕ) (ts : List Spelled) → Ensures (GotParts n ts) (points read m ts)
   unfolding points
-  parts_sound zero ts = record { formed = tt; small = omega arith; spelled = refl; also = tt }
+  parts_sound zero ts = record { formed = tt; small = omega arith; spelled = refl }
   parts_sound (suc m) ts =
-      match_ensures _ (GotParts P n ts) (after_sign (codes ".") ts) _ _ (sign_taken (codes ".") ts)
-      (record { formed = tt; small = omega arith; spelled = refl; also = tt })
-      (λ r e. then_ensures (GotPart P n r) (GotParts P n ts) (read r) _ (sound r)
-      (λ p g. then_ensures (GotParts P n p.1) (GotParts P n ts) (points read m p.1) _ (parts_sound m p.1)
+      match_ensures _ (GotParts n ts) (after_sign (codes ".") ts) _ _ (sign_taken (codes ".") ts)
+      (record { formed = tt; small = omega arith; spelled = refl })
+      (λ r e. then_ensures (GotPart n r) (GotParts n ts) (read r) _ (sound r)
+      (λ p g. then_ensures (GotParts n p.1) (GotParts n ts) (points read m p.1) _ (parts_sound m p.1)
       (λ ps h. record {
         formed = (g.formed, h.formed);
         small = omega (arith, g.small, h.small);
         spelled = e
             ∙ ap (λ (u : List Spelled). sign (codes ".") ∷ u) (g.spelled ∙ ap (part_onto p.0) h.spelled);
-        also = (g.also, h.also);
       })))
 
-  base_sound : (ts : List Spelled) → Ensures (GotBase P n ts) (base_with read ts)
+  base_sound : (ts : List Spelled) → Ensures (GotBase n ts) (base_with read ts)
   unfolding base_with
   base_sound ts =
-      match_ensures _ (GotBase P n ts) (after_plain ts) _ _ (plain_taken ts)
-      (then_ensures (GotPart P n ts) (GotBase P n ts) (read ts) _ (sound ts)
-      (λ p g. then_ensures (GotParts P n p.1) (GotBase P n ts) (points read (length p.1) p.1) _
+      match_ensures _ (GotBase n ts) (after_plain ts) _ _ (plain_taken ts)
+      (then_ensures (GotPart n ts) (GotBase n ts) (read ts) _ (sound ts)
+      (λ p g. then_ensures (GotParts n p.1) (GotBase n ts) (points read (length p.1) p.1) _
       (parts_sound (length p.1) p.1)
       (λ ps h. record {
         formed = ((g.formed, h.formed), refl);
         small = omega (arith, g.small, h.small);
         spelled = g.spelled
             ∙ ap (part_onto p.0) h.spelled;
-        also = (g.also, h.also);
       })))
-      (λ p e. record { formed = e.1; small = omega arith; spelled = e.0; also = tt })
+      (λ p e. record { formed = e.1; small = omega arith; spelled = e.0 })
 
 -- ---- types
 
-arrays_sound : (P : Part → Type 0) (n : ℕ) (ts : List Spelled) (b : Base × List Spelled) → GotBase P n ts b
+arrays_sound : (n : ℕ) (ts : List Spelled) (b : Base × List Spelled) → GotBase n ts b
     → Ensures (GotTy (suc n) ts) (arrays_behind b)
-arrays_sound P n ts b g = record {
+arrays_sound n ts b g = record {
   formed = g.formed;
   small = omega (arith, g.small);
   spelled = g.spelled
@@ -279,44 +265,38 @@ pub ty_sound : (n : ℕ) (ts : List Spelled) → Ensures (GotTy n ts) (ty_at n t
 unfolding ty_at
 ty_sound zero ts = tt
 ty_sound (suc n) ts =
-    then_ensures (GotBase (λ p. Unit {0}) n ts) (GotTy (suc n) ts) (base_with (part_with (ty_at n)) ts) _
-    (base_sound (λ p. Unit {0}) n (part_with (ty_at n)) (part_sound n (ty_at n) (ty_sound n)) ts)
-    (λ b g. arrays_sound (λ p. Unit {0}) n ts b g)
+    then_ensures (GotBase n ts) (GotTy (suc n) ts) (base_with (part_with (ty_at n)) ts) _
+    (base_sound n (part_with (ty_at n)) (part_sound n (ty_at n) (ty_sound n)) ts)
+    (λ b g. arrays_sound n ts b g)
 
--- ---- types without type arguments
+-- ---- types behind `instanceof`
 
-abbrev IsBarePart : Part → Type 0
-IsBarePart p = IsTrue (is_bare_part p)
+less_taken : (l : ℕ) (ts : List Spelled) → Ensures (λ r. ts ≡ sign (codes "<") ∷ r) (after_less l ts)
+less_taken l ts =
+    then_ensures (λ r. ts ≡ sign (codes "<") ∷ r) (λ r. ts ≡ sign (codes "<") ∷ r) (after_sign (codes "<") ts) _
+    (sign_taken (codes "<") ts)
+    (λ r e. if_ensures (λ r. ts ≡ sign (codes "<") ∷ r) (closes_angle l 0 r) _ _ (λ c. e) (λ c. tt))
 
-bare_part_sound : (ts : List Spelled) → Ensures (GotPart IsBarePart 0 ts) (bare_part_at ts)
-bare_part_sound ts = then_ensures _ (GotPart IsBarePart 0 ts) (after_name ts) _ (name_taken ts)
-    (λ x e. record { formed = tt; small = omega arith; spelled = e; also = refl })
-
-all_bare : (ps : Parts) → AllParts IsBarePart ps → IsTrue (are_bare_parts ps)
-all_bare no_part h = refl
-all_bare (part_then p ps) h = rw h.0 (all_bare ps h.1)
-
-base_bare : (b : Base) (m : ℕ) → OfBase IsBarePart b → IsTrue (is_bare (Typed b m))
-base_bare (Plain text) m h = refl
-base_bare (Named ps) m h = all_bare ps h
-
-pub record GotBare (ts : List Spelled) (x : Ty × List Spelled) : Type 0 where
-  pub formed : FormedTy x.0
-  pub bare : IsTrue (is_bare x.0)
-  pub small : ty_nesting x.0 ≤ 1
-  pub spelled : ts ≡ ty_onto x.0 x.1
-
-pub bare_sound : (ts : List Spelled) → Ensures (GotBare ts) (bare_ty_at ts)
-unfolding bare_ty_at
-bare_sound ts =
-    then_ensures (GotBase IsBarePart 0 ts) (GotBare ts) (base_with bare_part_at ts) _ (base_sound IsBarePart 0
-    bare_part_at bare_part_sound ts)
-    (λ b g. record {
+tested_part_sound : (n : ℕ) (ts : List Spelled) → Ensures (GotPart n ts) (tested_part_with n (ty_at n) ts)
+unfolding tested_part_with
+tested_part_sound n ts =
+    then_ensures _ (GotPart n ts) (after_name ts) _ (name_taken ts)
+    (λ x e. match_ensures _ (GotPart n ts) (after_less n x.1) _ _ (less_taken n x.1)
+    (record { formed = tt; small = omega arith; spelled = e })
+    (λ r f. then_ensures (GotAngled n r) (GotPart n ts) (angled_with (ty_at n) r) _
+    (angled_sound n (ty_at n) (ty_sound n) r)
+    (λ a g. record {
       formed = g.formed;
-      bare = base_bare b.0 _ g.also;
-      small = omega (arith, g.small);
-      spelled = g.spelled ∙ ap (base_onto b.0) (brackets_are (length b.1) b.1);
-    })
+      small = g.small;
+      spelled = e ∙ ap (λ (u : List Spelled). identifier x.0 ∷ u) (f ∙ g.spelled);
+    })))
+
+pub tested_sound : (n : ℕ) (ts : List Spelled) → Ensures (GotTy n ts) (tested_ty_at n ts)
+unfolding tested_ty_at
+tested_sound zero ts = tt
+tested_sound (suc n) ts =
+    then_ensures (GotBase n ts) (GotTy (suc n) ts) (base_with (tested_part_with n (ty_at n)) ts) _
+    (base_sound n (tested_part_with n (ty_at n)) (tested_part_sound n) ts) (λ b g. arrays_sound n ts b g)
 
 -- ---- what stands behind `new`
 

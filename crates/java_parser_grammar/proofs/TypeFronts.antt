@@ -105,7 +105,7 @@ mutual
   part_longer (Bare x) rest = omega arith
   part_longer (Generic x a) rest = omega (arith, angled_longer a rest)
 
-  angled_longer : (a : Arguments) (rest : List Spelled) → length rest ≤ length (angled_onto a rest)
+  pub angled_longer : (a : Arguments) (rest : List Spelled) → length rest ≤ length (angled_onto a rest)
   angled_longer (Angled no_argument g) rest = omega arith
   angled_longer (Angled (argument_then a others) g) rest =
       let r = sign_glued g (codes ">") ∷ rest in

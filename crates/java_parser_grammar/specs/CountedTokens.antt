@@ -1,6 +1,6 @@
 -- A contract of a public call rests on this: the tree of a method keeps how many tokens its spelling has.
 use Rattle.std.specs.Prelude.{◌≡◌, length}
-use Rattle.java_tree.specs.Formed.{Each}
+use Rattle.java_tree.specs.FormedModifiers.{Each}
 use Rattle.java_tree.specs.Spelling.{spelling}
 use Rattle.java_tree.specs.View.{method_of}
 use Rattle.java_tree.specs.declared.unit.Member.{Member}

@@ -1,39 +1,158 @@
 -- A contract of a public call rests on this: reading expressions and array initialisers from tokens (JLS 15, 10.6).
-use Rattle.std.specs.Prelude.{ℕ, zero, suc, Bool, true, false, not, ◌&&◌, ◌||◌, List, [], ◌∷◌, length, Option, Some}
-use Rattle.std.specs.Prelude.{None, nat_le, codes, bytes_eq, if◌then◌else◌}
+use Rattle.std.specs.Prelude.{◌≡◌, ℕ, zero, suc, Bool, true, false, not, ◌&&◌, ◌||◌, List, [], ◌∷◌, length, Option}
+use Rattle.std.specs.Prelude.{Some}
+use Rattle.std.specs.Prelude.{None, nat_le, is_some, codes, bytes_eq, if◌then◌else◌}
 use Rattle.java_lexer.specs.declared.token.TokenKind.{TokenKind}
 use Rattle.java_lexer.specs.declared.token.TokenKind.TheVariants as kind
 use Rattle.java_tree.specs.declared.words.Spelled.{Spelled}
-use Rattle.java_tree.specs.Brackets.{is_sign}
+use Rattle.java_tree.specs.Brackets.{is_sign, is_keyword, is_word_name}
+use Rattle.java_tree.specs.Words.{identifier}
 use Rattle.java_tree.specs.Operators.{assignment_level, conditional_level, relational_level, unary_level}
 use Rattle.java_tree.specs.Operators.{postfix_level, primary_level, binary_level, is_prefix, is_step}
+use Rattle.java_tree.specs.Trees.{Plain, Named, Parts, no_part, part_then, Bare, Arguments, NewBody, Lambda}
+use Rattle.java_tree.specs.Trees.{BlockLambda, Reference, TypeReference, SuperReference, PlainClass, ThisOf}
 use Rattle.java_tree.specs.Trees.{Ty, Typed, Base, Expr, Assign, Conditional, Binary, InstanceOf, Prefix, Cast}
 use Rattle.java_tree.specs.Trees.{Postfix, Literal, This, Name, Paren, Field, Index, Call, CallOn, ClassOf, New}
 use Rattle.java_tree.specs.Trees.{NewArray, NewItems, expr_then, Array, Braces, no_init, init_then, Init, Value}
 use Rattle.java_tree.specs.Trees.{Items, pack_exprs, pack_inits}
-use Rattle.java_tree.specs.Formed.{level, is_variable, makes_array, is_named}
+use Rattle.java_tree.specs.Formed.{level, is_variable, makes_array, is_named, are_plain, is_plain_word}
+use Rattle.java_tree.specs.Formed.{is_no_expression}
 use Rattle.java_tree.specs.Nesting.{expr_nesting}
-use Rattle.java_parser_grammar.specs.Taking.{◌>>=◌, match_option, is_keyword, is_name_kind, after_sign, after_name}
+use Rattle.java_parser_grammar.specs.Taking.{◌>>=◌, match_option, match_number, after_sign, after_keyword, after_name}
 use Rattle.java_parser_grammar.specs.Taking.{commas}
-use Rattle.java_parser_grammar.specs.TypeReading.{after_brackets, brackets_at, has_diamond, ty_at, bare_ty_at}
-use Rattle.java_parser_grammar.specs.TypeReading.{made_base_at}
+use Rattle.java_parser_grammar.specs.BalancedReading.{Reading, between_at, braces_tokens_at}
+use Rattle.java_parser_grammar.specs.TypeReading.{after_brackets, brackets_at, has_diamond, ty_at, tested_ty_at}
+use Rattle.java_parser_grammar.specs.TypeReading.{made_base_at, closes_angle, EndsNoTypes, types_at, between_each}
 use Rattle.java_parser_grammar.specs.Leads.{Lead, Assigns, Asks, Joins, Tests, Steps, Selects, Indexes, Opens, Ends}
-use Rattle.java_parser_grammar.specs.Leads.{lead}
-use Rattle.java_parser_grammar.specs.Leads.{casts}
-
--- what is read from the front of tokens, and the tokens behind it
-abbrev pub Reading : Type 0 → Type 0
-Reading A = List Spelled → Option (A × List Spelled)
+use Rattle.java_parser_grammar.specs.Leads.{Refers, Binds, lead, begins_with, ends_expression, begins_lambda, casts}
 
 -- ---- operands
 
--- the names, each behind a point, before `. class`; `true` where a point is awaited
-unfoldable pub class_at : Bool → Reading (List (List ℕ))
+-- what ends names that are no expression: `. class`, one or more `[ ]` and `. class`, or `. this`
+pub data NamesEnd : Type 0 where
+  AtClass : NamesEnd
+  AtArray : (arrays : ℕ) → NamesEnd
+  AtThis : NamesEnd
+
+-- `. class` behind brackets, and how many these are
+abbrev pub array_class_at : Reading NamesEnd
+array_class_at ts =
+    let m = brackets_at (length ts) ts in
+    after_sign (codes ".") m.1 >>= λ r. after_keyword (codes "class") r >>= λ s. match_number m.0 None
+    (λ e. Some (AtArray (suc e), s))
+
+-- the names, each behind a point, and their end; `true` where a point or the end is awaited (JLS 15.8.2, 15.8.4)
+unfoldable pub class_at : Bool → Reading (List (List ℕ) × NamesEnd)
 class_at point [] = None
-class_at true (t ∷ ts) = if is_sign (codes ".") t then class_at false ts else None
+class_at true (t ∷ ts) =
+    if is_sign (codes ".") t then class_at false ts
+    else (if is_sign (codes "[") t then (array_class_at (t ∷ ts) >>= λ end. Some (([], end.0), end.1)) else None)
 class_at false (t ∷ ts) =
-    if is_keyword (codes "class") t then Some ([], ts)
-    else (if is_name_kind t.kind && not t.glued then (class_at true ts >>= λ xs. Some (t.text ∷ xs.0, xs.1)) else None)
+    if is_keyword (codes "class") t then Some (([], AtClass), ts)
+    else (if is_keyword (codes "this") t then Some (([], AtThis), ts)
+    else (if is_word_name t then (class_at true ts >>= λ xs. Some ((t.text ∷ xs.0.0, xs.0.1), xs.1)) else None))
+
+-- names as the parts of a type
+abbrev pub bare_parts : List (List ℕ) → Parts
+bare_parts [] = no_part
+bare_parts (x ∷ xs) = part_then (Bare x) (bare_parts xs)
+
+-- the expression that names with such an end are
+abbrev pub ended : List (List ℕ) → NamesEnd → Expr
+ended xs AtClass = ClassOf xs
+ended xs (AtArray n) = PlainClass (Typed (Named (bare_parts xs)) n)
+ended xs AtThis = ThisOf xs
+
+abbrev mutual
+  -- whether names, at one or behind one, go on as a type with `[ ]` or with type arguments, of which at most `limit`
+  -- stand in one another behind the first `<`
+  pub goes_typed : (limit : ℕ) → List Spelled → Bool
+  goes_typed l [] = false
+  goes_typed l (t ∷ ts) =
+      if is_sign (codes ".") t then name_goes_typed l ts
+      else ((is_sign (codes "[") t && begins_with (codes "]") ts) || (is_sign (codes "<") t && closes_angle l 0 ts))
+
+  pub name_goes_typed : (limit : ℕ) → List Spelled → Bool
+  name_goes_typed l [] = false
+  name_goes_typed l (t ∷ ts) = is_word_name t && goes_typed l ts
+
+-- with a token that is glued to the one before it
+abbrev pub begins_glued : List Spelled → Bool
+begins_glued [] = false
+begins_glued (t ∷ ts) = t.glued
+
+-- the tokens go on as no type, no type arguments that were begun before end in them, and nothing is glued to what
+-- stands before them
+abbrev pub LeavesTypes : List Spelled → Type 0
+LeavesTypes ts = ((limit : ℕ) → goes_typed limit ts ≡ false) × EndsNoTypes ts × (begins_glued ts ≡ false)
+
+-- ---- method references (JLS 15.13)
+
+-- a name, or `new`
+abbrev pub name_or_new_at : Reading (Option (List ℕ))
+name_or_new_at ts = match_option (after_keyword (codes "new") ts) (do
+  x ← after_name ts
+  Some (Some x.0, x.1)) (λ r. Some (None, r))
+
+-- what stands behind `::`
+unfoldable pub referred_at : ℕ → Reading (Option Arguments × Option (List ℕ))
+referred_at n ts = do
+  types ← types_at n ts
+  x ← name_or_new_at types.1
+  Some ((types.0, x.0), x.1)
+
+-- a reference to a type that was read, behind it
+abbrev pub type_reference_at : ℕ → Ty → Reading Expr
+type_reference_at n t ts = do
+  r ← after_sign (codes "::") ts
+  to ← referred_at n r
+  if is_no_expression t then Some (TypeReference t to.0.0 to.0.1, to.1) else None
+
+-- the type is the name and what stands behind it
+unfoldable pub typed_name_with : ℕ → (name : List ℕ) → Reading Expr
+typed_name_with n x ts = do
+  t ← ty_at n (identifier x ∷ ts)
+  type_reference_at n t.0 t.1
+
+-- behind the word of a primitive type or `void`, and its `[ ]`: `. class`, or a reference
+unfoldable pub plain_word_with : ℕ → (word : List ℕ) → Reading Expr
+plain_word_with n word ts =
+    let m = brackets_at (length ts) ts in
+    match_option (after_sign (codes ".") m.1)
+    (if is_plain_word word && nat_le 1 n then type_reference_at n (Typed (Plain word) m.0) m.1 else None)
+    (λ r. do
+      s ← after_keyword (codes "class") r
+      Some (PlainClass (Typed (Plain word) m.0), s))
+
+abbrev pub super_with : ℕ → Reading Expr
+super_with n ts = do
+  r ← after_sign (codes "::") ts
+  to ← referred_at n r
+  Some (SuperReference to.0.0 to.0.1, to.1)
+
+-- ---- lambdas (JLS 15.27)
+
+-- what stands before the `->`, where a lambda begins
+unfoldable pub lambda_parameters_at : Reading (List Spelled)
+lambda_parameters_at [] = None
+lambda_parameters_at (t ∷ ts) = if is_sign (codes "(") t then between_at (codes ")") (t ∷ ts) else Some (t ∷ [], ts)
+
+-- the expression of a lambda takes all that could go on with the lambda (JLS 15.27.2)
+unfoldable pub lambda_with : Reading Expr → Reading Expr
+lambda_with read ts = do
+  ps ← lambda_parameters_at ts
+  r ← after_sign (codes "->") ps.1
+  if begins_with (codes "{") r then (do
+    block ← braces_tokens_at r
+    Some (BlockLambda ps.0 block.0, block.1)) else (do
+      a ← read r
+      if ends_expression a.1 then Some (Lambda ps.0 a.0, a.1) else None)
+
+-- the level that is read at where a lambda may stand too
+abbrev pub lambda_level : (level : ℕ) → List Spelled → ℕ
+lambda_level l ts = if begins_lambda ts then assignment_level else l
+
+-- ---- names, parentheses, prefixes
 
 -- the arguments of a call behind its `(`, and the `)`
 unfoldable pub call_arguments_with : (ℕ → Reading Expr) → Reading (List Expr)
@@ -46,14 +165,15 @@ call_arguments_with read ts =
       Some (first.0 ∷ others.0, r))
     (λ r. Some ([], r))
 
--- what begins with this name: a class, a call or the name
-unfoldable pub name_with : (ℕ → Reading Expr) → (name : List ℕ) → Reading Expr
-name_with read x ts =
+-- what begins with this name: a class or a `this` of it, a reference to a type, a call or the name
+unfoldable pub name_with : (ℕ → Reading Expr) → ℕ → (name : List ℕ) → Reading Expr
+name_with read n x ts =
     match_option (class_at true ts)
-    (match_option (after_sign (codes "(") ts) (Some (Name x, ts)) (λ r. do
+    (if goes_typed n ts then typed_name_with n x ts
+    else match_option (after_sign (codes "(") ts) (Some (Name x, ts)) (λ r. do
       all ← call_arguments_with read r
       Some (Call x (pack_exprs all.0), all.1)))
-    (λ names. Some (ClassOf (x ∷ names.0), names.1))
+    (λ names. Some (ended (x ∷ names.0.0) names.0.1, names.1))
 
 abbrev pub parens_with : (ℕ → Reading Expr) → Reading Expr
 parens_with read ts = do
@@ -63,10 +183,10 @@ parens_with read ts = do
 
 abbrev pub cast_with : (ℕ → Reading Expr) → Reading Ty → Reading Expr
 cast_with read ty ts = do
-  t ← ty ts
-  r ← after_sign (codes ")") t.1
-  a ← read unary_level r
-  Some (Cast t.0 a.0, a.1)
+  types ← between_each (codes "&") ty ts
+  r ← after_sign (codes ")") types.1
+  a ← read (if are_plain types.0 then unary_level else lambda_level unary_level r) r
+  Some (Cast types.0 a.0, a.1)
 
 -- `++` and `--` stand before what can be assigned alone
 unfoldable pub prefix_with : (ℕ → Reading Expr) → (operator : List ℕ) → Reading Expr
@@ -105,12 +225,15 @@ new_items_with array b ts = do
   items ← array m.1
   Some (NewItems (Typed b 0) (suc m.0) items.0, items.1)
 
--- an object of this class, behind its `(`
+-- an object of this class, behind its `(`; the body of a class of its own may stand behind the `)` (JLS 15.9.5)
 unfoldable pub new_object_with : (ℕ → Reading Expr) → Base → Reading Expr
 new_object_with read b ts =
     if is_named (Typed b 0) then (do
       all ← call_arguments_with read ts
-      Some (New (Typed b 0) (pack_exprs all.0), all.1)) else None
+      if begins_with (codes "{") all.1 then (do
+        body ← braces_tokens_at all.1
+        Some (NewBody (Typed b 0) (pack_exprs all.0) body.0, body.1)) else
+          Some (New (Typed b 0) (pack_exprs all.0), all.1)) else None
 
 unfoldable pub new_with : (ℕ → Reading Expr) → Reading Base → Reading Array → Reading Expr
 new_with read made array ts = do
@@ -122,21 +245,23 @@ new_with read made array ts = do
       (λ r. new_object_with read b.0 r)
 
 -- what begins with this token
-abbrev pub operand_of : (ℕ → Reading Expr) → Reading Ty → Reading Base → Reading Array → TokenKind → List ℕ
-    → Reading Expr
-operand_of read ty made array kind.Keyword text ts =
+abbrev pub operand_of : (ℕ → Reading Expr) → ℕ → Reading Base → Reading Array → TokenKind → List ℕ → Reading Expr
+operand_of read n made array kind.Keyword text ts =
     if bytes_eq text (codes "this") then Some (This, ts)
-    else (if bytes_eq text (codes "new") then new_with read made array ts else None)
-operand_of read ty made array kind.Name text ts = name_with read text ts
-operand_of read ty made array kind.Sign text ts =
+    else (if bytes_eq text (codes "new") then new_with read made array ts
+    else (if bytes_eq text (codes "super") then super_with n ts
+    else (if is_plain_word text || bytes_eq text (codes "void") then plain_word_with n text ts else None)))
+operand_of read n made array kind.Name text ts = name_with read n text ts
+operand_of read n made array kind.Sign text ts =
     if is_prefix text then prefix_with read text ts
-    else (if bytes_eq text (codes "(") then (if casts ts then cast_with read ty ts else parens_with read ts) else None)
-operand_of read ty made array k text ts = Some (Literal k text, ts)
+    else (if bytes_eq text (codes "(") then (if casts ts then cast_with read (ty_at n) ts else parens_with read ts)
+    else None)
+operand_of read n made array k text ts = Some (Literal k text, ts)
 
 -- an expression with no expression at its left
-unfoldable pub operand_with : (ℕ → Reading Expr) → Reading Ty → Reading Base → Reading Array → Reading Expr
-operand_with read ty made array [] = None
-operand_with read ty made array (t ∷ ts) = if t.glued then None else operand_of read ty made array t.kind t.text ts
+unfoldable pub operand_with : (ℕ → Reading Expr) → ℕ → Reading Base → Reading Array → Reading Expr
+operand_with read n made array [] = None
+operand_with read n made array (t ∷ ts) = if t.glued then None else operand_of read n made array t.kind t.text ts
 
 -- ---- what goes on from an expression
 
@@ -158,7 +283,7 @@ unfoldable pub conditional_with : (ℕ → Reading Expr) → ℕ → Expr → Li
 conditional_with read n a ts = do
   b ← read assignment_level ts
   r ← after_sign (codes ":") b.1
-  c ← read conditional_level r
+  c ← read (lambda_level conditional_level r) r
   grown n (Conditional a b.0 c.0) c.1
 
 unfoldable pub binary_with : (ℕ → Reading Expr) → ℕ → Expr → (operator : List ℕ) → List Spelled → Option Turn
@@ -168,15 +293,21 @@ binary_with read n a op ts = do
 
 unfoldable pub instance_with : ℕ → Expr → List Spelled → Option Turn
 instance_with n a ts = do
-  t ← bare_ty_at ts
+  t ← tested_ty_at n ts
   grown n (InstanceOf a t.0) t.1
 
 unfoldable pub select_with : (ℕ → Reading Expr) → ℕ → Expr → List Spelled → Option Turn
 select_with read n a ts = do
-  x ← after_name ts
-  match_option (after_sign (codes "(") x.1) (grown n (Field a x.0) x.1) (λ r. do
+  types ← types_at n ts
+  x ← after_name types.1
+  match_option (after_sign (codes "(") x.1) (if is_some types.0 then None else grown n (Field a x.0) x.1) (λ r. do
     all ← call_arguments_with read r
-    grown n (CallOn a x.0 (pack_exprs all.0)) all.1)
+    grown n (CallOn a types.0 x.0 (pack_exprs all.0)) all.1)
+
+unfoldable pub refer_with : ℕ → Expr → List Spelled → Option Turn
+refer_with n a ts = do
+  to ← referred_at n ts
+  grown n (Reference a to.0.0 to.0.1) to.1
 
 unfoldable pub index_with : (ℕ → Reading Expr) → ℕ → Expr → List Spelled → Option Turn
 index_with read n a ts = do
@@ -201,7 +332,9 @@ turn_with read n l a (Steps op r) = if nat_le l postfix_level && is_variable a t
 turn_with read n l a (Selects r) = if nat_le primary_level (level a) then select_with read n a r else Some (Stop a)
 turn_with read n l a (Indexes r) = if nat_le primary_level (level a) && not (makes_array a) then index_with read n a r
     else Some (Stop a)
+turn_with read n l a (Refers r) = if nat_le primary_level (level a) then refer_with n a r else Some (Stop a)
 turn_with read n l a Opens = Some (Stop a)
+turn_with read n l a Binds = Some (Stop a)
 turn_with read n l a Ends = Some (Stop a)
 
 -- what a turn gave: the expression, or what goes on from it
@@ -259,8 +392,9 @@ unfoldable mutual
   pub read_at : ℕ → ℕ → Reading Expr
   read_at zero l ts = None
   read_at (suc n) l ts =
-      operand_with (read_at n) (ty_at n) (made_base_at n) (array_at n) ts >>= λ a. climb_with (read_at n) n l (suc n)
-      a.0 a.1
+      if begins_lambda ts then (if nat_le l assignment_level then lambda_with (read_at n assignment_level) ts else None)
+      else (operand_with (read_at n) n (made_base_at n) (array_at n) ts >>= λ a. climb_with (read_at n) n l (suc n)
+      a.0 a.1)
 
   -- an array initialiser of a nesting of at most n
   pub array_at : ℕ → Reading Array

@@ -10,9 +10,10 @@ use Rattle.java_tree.specs.declared.methods.FieldInitialiser.{FieldInitialiser}
 use Rattle.java_tree.specs.declared.methods.FieldInitialiser.TheVariants.{Absent, Formed, Unread}
 use Rattle.java_tree.specs.Trees.{Init, Modifier, Word, Annotated}
 use Rattle.java_tree.specs.Spelling.{ty_onto, init_onto, modifiers_onto}
-use Rattle.java_tree.specs.Formed.{Each, has_some, FormedTy, FormedInit, FormedAnnotation}
+use Rattle.java_tree.specs.FormedModifiers.{Each, has_some, FormedAnnotation}
+use Rattle.java_tree.specs.Formed.{FormedTy, FormedInit}
 use Rattle.java_tree.specs.Nesting.{ty_nesting, init_nesting}
-use Rattle.java_tree.specs.KeptPlaces.{kept, ty_places, init_places}
+use Rattle.java_tree.specs.KeptPlaces.{kept, ty_places, init_places, AreAt}
 use Rattle.java_tree.specs.View.{ty_of, init_of, modifier_of}
 use Rattle.java_parser_grammar.specs.Tokens.{plain_all, is_sign_token, is_name, begins_sign, AreLast}
 use Rattle.java_parser_grammar.specs.Pieces.{Item, items_of}
@@ -31,7 +32,7 @@ BeginsWith [] Absent = Unit {0}
 BeginsWith [] _ = ⊥
 BeginsWith (e ∷ ts) Absent = ⊥
 BeginsWith (e ∷ ts) (Formed i) =
-    IsTrue (is_sign_token (codes "=") e) × IsInit ts (init_of i) × (init_places i [] ≡ kept ts)
+    IsTrue (is_sign_token (codes "=") e) × IsInit ts (init_of i) × AreAt (init_places i []) (kept ts)
 BeginsWith (e ∷ ts) Unread =
     IsTrue (is_sign_token (codes "=") e) × IsTrue (has_some ts) × ((i : Init) → IsInit ts i → ⊥)
 

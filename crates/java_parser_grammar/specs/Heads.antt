@@ -8,7 +8,8 @@ use Rattle.java_lexer.specs.declared.token.Token.{Token}
 use Rattle.java_tree.specs.declared.words.Spelled.{Spelled}
 use Rattle.java_tree.specs.Trees.{Modifier, Result, NoResult, VoidResult, TypeResult, Method}
 use Rattle.java_tree.specs.Spelling.{modifiers_onto, result_onto, spelling}
-use Rattle.java_tree.specs.Formed.{Each, FormedModifier, FormedResult, FormedMethod}
+use Rattle.java_tree.specs.FormedMethods.{FormedModifier, FormedResult, FormedMethod}
+use Rattle.java_tree.specs.FormedModifiers.{Each}
 use Rattle.java_tree.specs.Nesting.{result_nesting, method_nesting}
 use Rattle.java_tree.specs.KeptPlaces.{ty_places}
 use Rattle.java_tree.specs.View.{ty_of}

@@ -1,16 +1,16 @@
 -- A contract of a public call rests on this: what the first token does behind an expression, and the choice between a
 -- cast and parentheses.
-use Rattle.std.specs.Prelude.{ℕ, zero, suc, Bool, true, false, not, ◌&&◌, ◌||◌, List, [], ◌∷◌, codes, bytes_eq}
+use Rattle.std.specs.Prelude.{ℕ, suc, Bool, true, false, not, ◌&&◌, ◌||◌, List, [], ◌∷◌, codes, bytes_eq}
 use Rattle.std.specs.Prelude.{if◌then◌else◌}
 use Rattle.racer_base.specs.Name.{is_listed}
 use Rattle.java_lexer.specs.declared.token.TokenKind.{TokenKind}
 use Rattle.java_lexer.specs.declared.token.TokenKind.TheVariants as kind
 use Rattle.java_tree.specs.declared.words.Spelled.{Spelled}
-use Rattle.java_tree.specs.Brackets.{is_sign_kind, is_sign, is_some_and}
+use Rattle.java_tree.specs.Brackets.{is_sign_kind, is_sign, is_some_and, is_word_name}
 use Rattle.java_tree.specs.Operators.{assignment_level, conditional_level, relational_level, postfix_level}
 use Rattle.java_tree.specs.Operators.{primary_level, binary_level, is_assignment, is_step, is_signed}
-use Rattle.java_parser_grammar.specs.Taking.{match_option, after_sign, after_glued}
-use Rattle.java_parser_grammar.specs.TypeReading.{after_plain}
+use Rattle.java_parser_grammar.specs.Taking.{match_option, match_number, after_sign, after_glued}
+use Rattle.java_parser_grammar.specs.TypeReading.{opens, opens_word, after_plain}
 
 -- what a first token begins behind an expression, and the tokens behind it
 pub data Lead : Type 0 where
@@ -28,8 +28,12 @@ pub data Lead : Type 0 where
   Selects : List Spelled → Lead
   -- `[`
   Indexes : List Spelled → Lead
+  -- `::`
+  Refers : List Spelled → Lead
   -- an operand, which goes on with no expression
   Opens : Lead
+  -- `->` or `{`, before which no whole expression stands
+  Binds : Lead
   -- none of these
   Ends : Lead
 
@@ -46,9 +50,9 @@ lead_of_angle ts =
     match_option (after_glued ts) (Joins (codes ">") ts) (λ r. match_option (after_glued r) (Joins (codes ">>") r)
     (λ s. Joins (codes ">>>") s))
 
--- the signs that begin an operand and are no operators between operands
-abbrev pub opens : List ℕ → Bool
-opens text = is_listed (codes "(" ∷ codes "!" ∷ codes "~" ∷ []) text
+-- the signs behind the parameters of a lambda and behind the arguments of an anonymous class (JLS 15.27, 15.9.5)
+abbrev pub binds : List ℕ → Bool
+binds text = is_listed (codes "->" ∷ codes "{" ∷ []) text
 
 abbrev pub lead_of_sign : List ℕ → List Spelled → Lead
 lead_of_sign text ts =
@@ -59,12 +63,14 @@ lead_of_sign text ts =
     else (if bytes_eq text (codes "?") then Asks ts
     else (if bytes_eq text (codes ".") then Selects ts
     else (if bytes_eq text (codes "[") then Indexes ts
-    else (if opens text then Opens else Ends)))))))
+    else (if bytes_eq text (codes "::") then Refers ts
+    else (if binds text then Binds
+    else (if opens text then Opens else Ends)))))))))
 
 abbrev pub lead_of_word : TokenKind → List ℕ → List Spelled → Lead
 lead_of_word kind.Keyword text ts =
     if bytes_eq text (codes "instanceof") then Tests ts
-    else (if is_listed (codes "this" ∷ codes "new" ∷ []) text then Opens else Ends)
+    else (if opens_word text then Opens else Ends)
 lead_of_word kind.Sign text ts = lead_of_sign text ts
 lead_of_word _ text ts = Opens
 
@@ -94,6 +100,8 @@ pull_of (Tests r) = suc relational_level
 pull_of (Steps op r) = suc postfix_level
 pull_of (Selects r) = point_pull
 pull_of (Indexes r) = bracket_pull
+pull_of (Refers r) = point_pull
+pull_of Binds = operand_pull
 pull_of Opens = operand_pull
 pull_of Ends = 0
 
@@ -101,7 +109,7 @@ pull_of Ends = 0
 abbrev pub pull : List Spelled → ℕ
 pull ts = pull_of (lead ts)
 
--- ---- a cast or parentheses (JLS 15.16)
+-- ---- a lambda, a cast or parentheses (JLS 15.16, 15.27)
 
 abbrev pub is_opens : Lead → Bool
 is_opens Opens = true
@@ -111,14 +119,23 @@ is_opens _ = false
 abbrev pub opens_operand : List Spelled → Bool
 opens_operand ts = is_opens (lead ts)
 
+abbrev pub is_ends : Lead → Bool
+is_ends Ends = true
+is_ends _ = false
+
+-- begins with nothing that an expression before it goes on with
+abbrev pub ends_expression : List Spelled → Bool
+ends_expression ts = is_ends (lead ts)
+
 -- begins with `+`, `-`, `++` or `--`
 abbrev pub opens_signed : List Spelled → Bool
 opens_signed [] = false
 opens_signed (t ∷ ts) = is_sign_kind t.kind && (not t.glued && is_signed t.text)
 
-abbrev pub match_number : {A : Type 0} → ℕ → A → (ℕ → A) → A
-match_number zero a f = a
-match_number (suc n) a f = f n
+-- whether this sign stands in front
+abbrev pub begins_with : List ℕ → List Spelled → Bool
+begins_with text [] = false
+begins_with text (t ∷ ts) = is_sign text t
 
 -- the tokens behind the `)` that closes one more than `depth` open parentheses
 unfoldable pub behind : ℕ → List Spelled → List Spelled
@@ -126,6 +143,12 @@ behind depth [] = []
 behind depth (t ∷ ts) =
     if is_sign (codes "(") t then behind (suc depth) ts
     else (if is_sign (codes ")") t then match_number depth ts (λ d. behind d ts) else behind depth ts)
+
+-- whether a lambda begins here: a name, or parentheses, and `->` behind it
+unfoldable pub begins_lambda : List Spelled → Bool
+begins_lambda [] = false
+begins_lambda (t ∷ ts) =
+    (is_word_name t && begins_with (codes "->") ts) || (is_sign (codes "(") t && begins_with (codes "->") (behind 0 ts))
 
 -- the word of a primitive type and `)`
 abbrev pub is_plain_cast : List Spelled → Bool

@@ -1,6 +1,7 @@
 pub mod Taking
 pub mod TypeReading
 pub mod Leads
+pub mod BalancedReading
 pub mod ExpressionReading
 pub mod Readers
 pub mod Lookahead

@@ -1,6 +1,6 @@
 -- A contract of a public call rests on this: what a cut of a class body into members is (JLS 8.1.6).
 use Rattle.std.specs.Prelude.{Bool, false, not, ◌&&◌, ◌||◌, ◌⊎◌, List, [], ◌∷◌, IsTrue, codes}
-use Rattle.java_tree.specs.Formed.{has_some}
+use Rattle.java_tree.specs.FormedModifiers.{has_some}
 use Rattle.java_parser_grammar.specs.Tokens.{begins_sign}
 use Rattle.java_parser_grammar.specs.Pieces.{Item}
 use Rattle.java_parser_grammar.specs.Members.{ends_member, is_endless}

@@ -1,60 +1,19 @@
 -- A contract of a public call rests on this: reading methods, over readers of expressions, types and initialisers.
-use Rattle.std.specs.Prelude.{ℕ, zero, suc, List, [], ◌∷◌, length, Option, Some, None, codes, if◌then◌else◌}
+use Rattle.std.specs.Prelude.{ℕ, zero, suc, Bool, true, false, List, [], ◌∷◌, length, Option, Some, None, codes}
+use Rattle.std.specs.Prelude.{if◌then◌else◌}
 use Rattle.java_tree.specs.declared.words.Spelled.{Spelled}
-use Rattle.java_tree.specs.Brackets.{awaited_behind}
+use Rattle.java_tree.specs.FormedMethods.{is_any_number_last}
 use Rattle.java_tree.specs.Formed.{is_named}
-use Rattle.java_tree.specs.Trees.{Ty, Annotation, Modifier, Word, Annotated, Result, NoResult, VoidResult}
-use Rattle.java_tree.specs.Trees.{TypeResult, Parameter, Method}
-use Rattle.java_parser_grammar.specs.ExpressionReading.{Reading}
-use Rattle.java_parser_grammar.specs.Taking.{◌>>=◌, match_option, after_sign, after_keyword, after_name}
-use Rattle.java_parser_grammar.specs.TypeReading.{points}
+use Rattle.java_tree.specs.Trees.{Ty, Modifier, Word, Annotated, Result, NoResult, VoidResult}
+use Rattle.java_tree.specs.Trees.{TypeResult, Parameter, TypeParameter, TypeParameters, Method}
+use Rattle.java_parser_grammar.specs.BalancedReading.{Reading}
+use Rattle.java_parser_grammar.specs.Taking.{◌>>=◌, match_option, after_sign, after_keyword, after_name, after_angle}
+use Rattle.java_parser_grammar.specs.BalancedReading.{annotation_at, annotations_at, before_type_at}
+use Rattle.java_parser_grammar.specs.TypeReading.{between_each, brackets_at}
 use Rattle.java_parser_grammar.specs.Readers.{Readers}
-use Rattle.java_parser_grammar.specs.Lookahead.{begins_with, is_constructor, after_modifier}
-use Rattle.java_parser_grammar.specs.StatementReading.{comma_list, final_at, block_at}
-
--- ---- annotations
-
--- the tokens up to the one that closes the brackets that are awaited, and those behind it
-unfoldable pub closed_at : List (List ℕ) → Reading (List Spelled)
-closed_at [] ts = Some ([], ts)
-closed_at (inner ∷ outer) [] = None
-closed_at (inner ∷ outer) (t ∷ ts) = do
-  awaited ← awaited_behind t inner outer
-  closed ← closed_at awaited ts
-  Some (t ∷ closed.0, closed.1)
-
--- one bracket and the tokens up to its `)`
-abbrev pub parentheses_at : Reading (List Spelled)
-parentheses_at [] = None
-parentheses_at (t ∷ ts) = do
-  closed ← closed_at (codes ")" ∷ []) ts
-  Some (t ∷ closed.0, closed.1)
-
--- one pair of parentheses, where it stands
-abbrev pub arguments_at : Reading (List Spelled)
-arguments_at ts = if begins_with (codes "(") ts then parentheses_at ts else Some ([], ts)
-
--- names joined by points
-unfoldable pub names_at : Reading (List (List ℕ))
-names_at ts = do
-  x ← after_name ts
-  others ← points after_name (length x.1) x.1
-  Some (x.0 ∷ others.0, others.1)
-
--- an annotation, behind its `@`
-unfoldable pub annotation_at : Reading Annotation
-annotation_at ts = do
-  xs ← names_at ts
-  a ← arguments_at xs.1
-  Some (record { names = xs.0; arguments = a.0 }, a.1)
-
--- annotations, as long as they come
-unfoldable pub annotations_at : ℕ → Reading (List Annotation)
-annotations_at zero ts = None
-annotations_at (suc m) ts = match_option (after_sign (codes "@") ts) (Some ([], ts)) (λ r. do
-  first ← annotation_at r
-  others ← annotations_at m first.1
-  Some (first.0 ∷ others.0, others.1))
+use Rattle.java_parser_grammar.specs.Leads.{begins_with}
+use Rattle.java_parser_grammar.specs.Lookahead.{is_constructor, after_modifier}
+use Rattle.java_parser_grammar.specs.StatementReading.{comma_list, block_at}
 
 -- ---- the head of a method
 
@@ -68,6 +27,15 @@ modifiers_at (suc m) ts = match_option (after_sign (codes "@") ts) (match_option
         first ← annotation_at r
         others ← modifiers_at m first.1
         Some (Annotated first.0 ∷ others.0, others.1))
+
+-- whether `...` stands here
+abbrev pub any_number_at : List Spelled → Bool × List Spelled
+any_number_at ts = match_option (after_sign (codes "...") ts) (false, ts) (λ r. (true, r))
+
+-- the number of the `[ ]` behind the parameters, which stand where a method has a type
+abbrev pub arrays_behind : Result → List Spelled → ℕ × List Spelled
+arrays_behind (TypeResult t) ts = brackets_at (length ts) ts
+arrays_behind _ ts = (0, ts)
 
 -- what was read, where no tokens are left
 abbrev pub if_ended : {A : Type 0} → A → List Spelled → Option A
@@ -83,14 +51,34 @@ module _ (readers : Readers) where
 
   unfoldable pub parameter_at : ℕ → Reading Parameter
   parameter_at n ts = do
-    annotations ← annotations_at (length ts) (final_at ts).1
-    t ← readers.ty n annotations.1
-    x ← after_name t.1
-    Some (record { is_final = (final_at ts).0; annotations = annotations.0; kind = t.0; name = x.0 }, x.1)
+    ms ← before_type_at ts
+    t ← readers.ty n ms.1
+    let more = any_number_at t.1
+    x ← after_name more.1
+    let m = brackets_at (length x.1) x.1
+    Some (record { modifiers = ms.0; kind = t.0; any_number = more.0; name = x.0; arrays = m.0 }, m.1)
 
   -- the parameters, up to the `)`
   abbrev pub parameters_at : ℕ → Reading (List Parameter)
-  parameters_at n ts = if begins_with (codes ")") ts then Some ([], ts) else comma_list (parameter_at n) ts
+  parameters_at n ts = if begins_with (codes ")") ts then Some ([], ts) else (do
+    ps ← comma_list (parameter_at n) ts
+    if is_any_number_last ps.0 then Some ps else None)
+
+  unfoldable pub type_parameter_at : ℕ → Reading TypeParameter
+  type_parameter_at n ts = do
+    ns ← annotations_at (length ts) ts
+    x ← after_name ns.1
+    bounds ← match_option (after_keyword (codes "extends") x.1) (Some ([], x.1)) (between_each (codes "&")
+        (readers.ty n))
+    Some (record { annotations = ns.0; name = x.0; bounds = bounds.0 }, bounds.1)
+
+  -- type parameters, where they stand, and the modifiers behind them
+  unfoldable pub type_parameters_at : ℕ → Reading (Option TypeParameters)
+  type_parameters_at n ts = match_option (after_sign (codes "<") ts) (Some (None, ts)) (λ r. do
+    ps ← comma_list (type_parameter_at n) r
+    angle ← after_angle ps.1
+    ms ← modifiers_at (length angle.1) angle.1
+    Some (Some (record { items = ps.0; glued = angle.0; modifiers = ms.0 }), ms.1))
 
   -- an exception's type
   abbrev pub thrown_at : ℕ → Reading Ty
@@ -104,20 +92,23 @@ module _ (readers : Readers) where
   -- ---- methods
 
   -- a method from its name on
-  unfoldable pub named_at : ℕ → List Modifier → Result → Reading Method
-  named_at n modifiers result ts = do
+  unfoldable pub named_at : ℕ → List Modifier → Option TypeParameters → Result → Reading Method
+  named_at n modifiers type_parameters result ts = do
     x ← after_name ts
     a ← after_sign (codes "(") x.1
     parameters ← parameters_at n a
     b ← after_sign (codes ")") parameters.1
-    throws ← throws_at n b
+    let m = arrays_behind result b
+    throws ← throws_at n m.1
     body ← block_at readers n throws.1
     Some (
       record {
         modifiers = modifiers;
+        type_parameters = type_parameters;
         result = result;
         name = x.0;
         parameters = parameters.0;
+        arrays = m.0;
         throws = throws.0;
         body = body.0;
       },
@@ -128,8 +119,9 @@ module _ (readers : Readers) where
   unfoldable pub method_from : ℕ → Reading Method
   method_from n ts = do
     modifiers ← modifiers_at (length ts) ts
-    result ← result_at n modifiers.1
-    named_at n modifiers.0 result.0 result.1
+    types ← type_parameters_at n modifiers.1
+    result ← result_at n types.1
+    named_at n modifiers.0 types.0 result.0 result.1
 
   -- the method that all these tokens are
   abbrev pub method_at : ℕ → List Spelled → Option Method

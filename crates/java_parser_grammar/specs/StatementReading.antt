@@ -4,22 +4,29 @@ use Rattle.std.specs.Prelude.{ℕ, zero, suc, Bool, true, false, List, [], ◌�
 use Rattle.std.specs.Prelude.{if◌then◌else◌, is_some, ◌||◌}
 use Rattle.java_tree.specs.declared.words.Spelled.{Spelled}
 use Rattle.java_tree.specs.Operators.{assignment_level, conditional_level}
+use Rattle.java_tree.specs.Trees.{Modifier, LocalClass}
 use Rattle.java_tree.specs.Trees.{Ty, Expr, pack_exprs, Variable, Locals, Start, Declares, Runs, Resource}
 use Rattle.java_tree.specs.Trees.{Resources, CatchParameter, Label, Case, Default, Stmt, Block, Local, Run, If}
 use Rattle.java_tree.specs.Trees.{IfElse, For, ForEach, Labelled, Empty, Stmts, pack_stmts, Row, Pieces, no_piece}
 use Rattle.java_tree.specs.Trees.{a_token, an_expr, maybe_an_expr, maybe_a_name, maybe_behind, a_condition, a_body}
 use Rattle.java_tree.specs.Trees.{a_block, maybe_resources, a_catch_parameter, a_list, present, absent, some_part}
 use Rattle.java_tree.specs.Trees.{a_switch, Several, no_row, row_then, Groups, no_group, group_then}
-use Rattle.java_tree.specs.Words.{keyword, sign}
+use Rattle.java_tree.specs.Words.{keyword, identifier, sign}
 use Rattle.java_tree.specs.Rows.{AKeyword, ASign, AnExpr, Until, MaybeName, MaybeBehind, ACondition, ABody, ABlock}
 use Rattle.java_tree.specs.Rows.{ASwitch, MaybeResources, ACatchParameter, Again, Perhaps, SomePart, Slots, no_slot}
 use Rattle.java_tree.specs.Rows.{◌▹◌, row_of}
-use Rattle.java_tree.specs.Formed.{is_named, has_some, is_run, is_body, some_stands}
-use Rattle.java_parser_grammar.specs.ExpressionReading.{Reading}
+use Rattle.java_tree.specs.FormedModifiers.{has_some}
+use Rattle.java_tree.specs.Formed.{is_named, is_run, is_body, some_stands}
+use Rattle.java_parser_grammar.specs.BalancedReading.{Reading}
 use Rattle.java_parser_grammar.specs.Taking.{◌>>=◌, match_option, after_sign, after_keyword, after_name, commas}
 use Rattle.java_parser_grammar.specs.Readers.{Readers}
-use Rattle.java_parser_grammar.specs.Lookahead.{begins_with, looks_local, name_and_colon, StatementLead, Semicolon}
-use Rattle.java_parser_grammar.specs.Lookahead.{Brace, IfWord, ForWord, RowWord, LabelWord, Other, statement_lead}
+use Rattle.java_parser_grammar.specs.Leads.{begins_with}
+use Rattle.java_parser_grammar.specs.BalancedReading.{between_at, before_type_at}
+use Rattle.java_parser_grammar.specs.TypeReading.{brackets_at, between_each}
+use Rattle.java_tree.specs.Brackets.{is_sign, is_class_word, are_none, awaited_in_head}
+use Rattle.java_parser_grammar.specs.Lookahead.{looks_local, name_and_colon, StatementLead, Semicolon}
+use Rattle.java_parser_grammar.specs.Lookahead.{Brace, IfWord, ForWord, RowWord, LabelWord, ClassWord, Other}
+use Rattle.java_parser_grammar.specs.Lookahead.{statement_lead}
 
 -- one, and each behind a comma
 abbrev pub comma_list : {A : Type 0} → Reading A → Reading (List A)
@@ -28,9 +35,29 @@ comma_list read ts = do
   others ← commas read (length first.1) first.1
   Some (first.0 ∷ others.0, others.1)
 
--- whether `final` stands in front, and the tokens behind it
-abbrev pub final_at : List Spelled → Bool × List Spelled
-final_at ts = match_option (after_keyword (codes "final") ts) (false, ts) (λ r. (true, r))
+-- ---- local classes (JLS 14.3)
+
+-- the tokens of a local class from behind its name on, where these closing brackets are awaited
+unfoldable pub class_from : List (List ℕ) → Reading (List Spelled)
+class_from awaited [] = None
+class_from awaited (t ∷ ts) =
+    if is_sign (codes "{") t then (if are_none awaited then between_at (codes "}") (t ∷ ts) else None) else (do
+      more ← awaited_in_head t awaited
+      others ← class_from more ts
+      Some (t ∷ others.0, others.1))
+
+-- its name and its tokens
+unfoldable pub local_class_at : Reading (List ℕ × List Spelled)
+local_class_at [] = None
+local_class_at (t ∷ ts) =
+    if is_class_word t then (do
+      c ← local_class_at ts
+      Some ((c.0.0, t ∷ c.0.1), c.1))
+    else (do
+      r ← after_keyword (codes "class") (t ∷ ts)
+      x ← after_name r
+      others ← class_from [] x.1
+      Some ((x.0, keyword (codes "class") ∷ identifier x.0 ∷ others.0), others.1))
 
 module _ (readers : Readers) where
   -- ---- variables
@@ -38,21 +65,24 @@ module _ (readers : Readers) where
   unfoldable pub variable_at : ℕ → Reading Variable
   variable_at n ts = do
     x ← after_name ts
-    match_option (after_sign (codes "=") x.1) (Some (record { name = x.0; initialiser = None }, x.1)) (λ r. do
-      i ← readers.init n r
-      Some (record { name = x.0; initialiser = Some i.0 }, i.1))
+    let m = brackets_at (length x.1) x.1
+    match_option (after_sign (codes "=") m.1) (Some (record { name = x.0; arrays = m.0; initialiser = None }, m.1))
+        (λ r. do
+          i ← readers.init n r
+          Some (record { name = x.0; arrays = m.0; initialiser = Some i.0 }, i.1))
 
   -- the variables of a declaration, behind its type
-  unfoldable pub variables_at : ℕ → Bool → Ty → Reading Locals
-  variables_at n is_final kind ts = do
+  unfoldable pub variables_at : ℕ → List Modifier → Ty → Reading Locals
+  variables_at n ms kind ts = do
     vs ← comma_list (variable_at n) ts
-    Some (record { is_final = is_final; kind = kind; variables = vs.0 }, vs.1)
+    Some (record { modifiers = ms; kind = kind; variables = vs.0 }, vs.1)
 
   -- a declaration without its `;`
   unfoldable pub locals_at : ℕ → Reading Locals
   locals_at n ts = do
-    t ← readers.ty n (final_at ts).1
-    variables_at n (final_at ts).0 t.0 t.1
+    ms ← before_type_at ts
+    t ← readers.ty n ms.1
+    variables_at n ms.0 t.0 t.1
 
   -- ---- expressions in statements
 
@@ -122,23 +152,24 @@ module _ (readers : Readers) where
     Some (For start condition.0 (pack_exprs updates.0) s.0, s.1)
 
   -- a `for` over the elements of something, from behind its `:`
-  unfoldable pub each_from : Reading Stmt → ℕ → Bool → Ty → List ℕ → Reading Stmt
-  each_from read n is_final t x ts = do
+  unfoldable pub each_from : Reading Stmt → ℕ → List Modifier → Ty → List ℕ → Reading Stmt
+  each_from read n ms t x ts = do
     e ← readers.expr n assignment_level ts
     r ← after_sign (codes ")") e.1
     s ← body_at read r
-    Some (ForEach is_final t x e.0 s.0, s.1)
+    Some (ForEach ms t x e.0 s.0, s.1)
 
-  abbrev pub for_declared : Reading Stmt → ℕ → Bool → Ty → Reading Stmt
-  for_declared read n is_final t ts = match_option (name_and_colon ts) (do
-    l ← variables_at n is_final t ts
-    for_from read n (Declares l.0) l.1) (λ x. each_from read n is_final t x.0 x.1)
+  abbrev pub for_declared : Reading Stmt → ℕ → List Modifier → Ty → Reading Stmt
+  for_declared read n ms t ts = match_option (name_and_colon ts) (do
+    l ← variables_at n ms t ts
+    for_from read n (Declares l.0) l.1) (λ x. each_from read n ms t x.0 x.1)
 
   -- a `for` whose head begins with a declaration
   unfoldable pub for_typed : Reading Stmt → ℕ → Reading Stmt
   for_typed read n ts = do
-    t ← readers.ty n (final_at ts).1
-    for_declared read n (final_at ts).0 t.0 t.1
+    ms ← before_type_at ts
+    t ← readers.ty n ms.1
+    for_declared read n ms.0 t.0 t.1
 
   -- a `for` whose head begins with expressions or with nothing
   unfoldable pub for_run : Reading Stmt → ℕ → Reading Stmt
@@ -183,11 +214,12 @@ module _ (readers : Readers) where
 
   unfoldable pub resource_at : ℕ → Reading Resource
   resource_at n ts = do
-    t ← readers.ty n (final_at ts).1
+    ms ← before_type_at ts
+    t ← readers.ty n ms.1
     x ← after_name t.1
     r ← after_sign (codes "=") x.1
     e ← readers.expr n assignment_level r
-    Some (record { is_final = (final_at ts).0; kind = t.0; name = x.0; value = e.0 }, e.1)
+    Some (record { modifiers = ms.0; kind = t.0; name = x.0; value = e.0 }, e.1)
 
   -- what stands behind a resource, with its `)`: more resources, each behind a `;`, and whether a last `;` stands
   unfoldable pub more_resources_at : ℕ → ℕ → Reading (List Resource × Bool)
@@ -212,23 +244,15 @@ module _ (readers : Readers) where
     t ← readers.ty n ts
     if is_named t.0 then Some t else None
 
-  -- what is read behind each `|`, as long as such signs come, at most m times
-  unfoldable pub bars_at : ℕ → ℕ → Reading (List Ty)
-  bars_at n zero ts = Some ([], ts)
-  bars_at n (suc m) ts = match_option (after_sign (codes "|") ts) (Some ([], ts)) (λ r. do
-    first ← named_at n r
-    others ← bars_at n m first.1
-    Some (first.0 ∷ others.0, others.1))
-
   -- the parameter of a `catch`, in parentheses
   unfoldable pub catch_parameter_at : ℕ → Reading CatchParameter
   catch_parameter_at n ts = do
     r ← after_sign (codes "(") ts
-    first ← named_at n (final_at r).1
-    others ← bars_at n (length first.1) first.1
-    x ← after_name others.1
+    ms ← before_type_at r
+    types ← between_each (codes "|") (named_at n) ms.1
+    x ← after_name types.1
     s ← after_sign (codes ")") x.1
-    Some (record { is_final = (final_at r).0; types = first.0 ∷ others.0; name = x.0 }, s)
+    Some (record { modifiers = ms.0; types = types.0; name = x.0 }, s)
 
   -- whether a label stands here
   abbrev pub begins_label : List Spelled → Bool
@@ -367,6 +391,9 @@ module _ (readers : Readers) where
   by_lead read block n (LabelWord x r) ts = do
     s ← body_at read r
     Some (Labelled x s.0, s.1)
+  by_lead read block n (ClassWord r) ts = do
+    c ← local_class_at r
+    Some (LocalClass c.0.0 c.0.1, c.1)
   by_lead read block n Other ts = simple_at n ts
 
   unfoldable mutual

@@ -1,10 +1,8 @@
 -- A contract of a public call rests on this: taking tokens from the front of a list, one at a time.
-use Rattle.std.specs.Prelude.{ℕ, zero, suc, Bool, true, false, not, ◌&&◌, List, [], ◌∷◌, Option, Some, None, codes}
+use Rattle.std.specs.Prelude.{ℕ, zero, suc, Bool, not, ◌&&◌, List, [], ◌∷◌, Option, Some, None, codes}
 use Rattle.std.specs.Prelude.{bytes_eq, if◌then◌else◌}
-use Rattle.java_lexer.specs.declared.token.TokenKind.{TokenKind}
-use Rattle.java_lexer.specs.declared.token.TokenKind.TheVariants as kind
 use Rattle.java_tree.specs.declared.words.Spelled.{Spelled}
-use Rattle.java_tree.specs.Brackets.{is_sign_kind, is_sign}
+use Rattle.java_tree.specs.Brackets.{is_sign_kind, is_sign, is_name_kind, is_keyword}
 
 infixl 10 ◌>>=◌
 abbrev pub ◌>>=◌ : {A B : Type 0} → Option A → (A → Option B) → Option B
@@ -15,17 +13,9 @@ abbrev pub match_option : {A B : Type 0} → Option A → B → (A → B) → B
 match_option None b f = b
 match_option (Some a) b f = f a
 
-abbrev pub is_keyword_kind : TokenKind → Bool
-is_keyword_kind kind.Keyword = true
-is_keyword_kind _ = false
-
-abbrev pub is_name_kind : TokenKind → Bool
-is_name_kind kind.Name = true
-is_name_kind _ = false
-
--- whether the token is this keyword, glued to nothing
-abbrev pub is_keyword : List ℕ → Spelled → Bool
-is_keyword text t = is_keyword_kind t.kind && (not t.glued && bytes_eq t.text text)
+abbrev pub match_number : {A : Type 0} → ℕ → A → (ℕ → A) → A
+match_number zero a f = a
+match_number (suc n) a f = f n
 
 -- the tokens behind this sign, where it stands in front and is glued to nothing
 abbrev pub after_sign : List ℕ → List Spelled → Option (List Spelled)

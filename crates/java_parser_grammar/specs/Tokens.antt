@@ -6,8 +6,8 @@ use Rattle.java_lexer.specs.declared.token.Token.{Token}
 use Rattle.java_tree.specs.declared.words.Spelled.{Spelled}
 use Rattle.java_tree.specs.Brackets.{is_sign_kind, is_sign}
 use Rattle.java_tree.specs.KeptPlaces.{Places, kept}
-use Rattle.java_parser_grammar.specs.Taking.{is_keyword_kind, is_keyword}
-use Rattle.java_parser_grammar.specs.Lookahead.{is_word_name}
+use Rattle.java_tree.specs.Brackets.{is_keyword_kind, is_keyword}
+use Rattle.java_tree.specs.Brackets.{is_word_name}
 
 -- tokens without their places
 abbrev pub plain : Token → Spelled

@@ -9,11 +9,12 @@ use Rattle.java_tree.specs.declared.methods.AnnotationTree.{AnnotationTree}
 use Rattle.java_tree.specs.declared.methods.FieldTree.{FieldTree}
 use Rattle.java_tree.specs.Trees.{Method}
 use Rattle.java_tree.specs.Spelling.{annotation_onto}
-use Rattle.java_tree.specs.Formed.{has_some}
+use Rattle.java_tree.specs.FormedModifiers.{has_some}
 use Rattle.java_tree.specs.KeptPlaces.{kept}
-use Rattle.java_tree.specs.MethodPlaces.{method_marks, AreAt}
+use Rattle.java_tree.specs.KeptPlaces.{AreAt}
+use Rattle.java_tree.specs.MethodPlaces.{method_marks}
 use Rattle.java_tree.specs.View.{method_of, annotation_of}
-use Rattle.java_parser_grammar.specs.Lookahead.{begins_with}
+use Rattle.java_parser_grammar.specs.Leads.{begins_with}
 use Rattle.java_tree.specs.declared.unit.Member.{Member}
 use Rattle.java_tree.specs.declared.unit.Member.TheVariants as member
 use Rattle.java_tree.specs.declared.unit.ClassTree.{ClassTree}

@@ -6,6 +6,7 @@ mod classes;
 mod counts;
 mod cuts;
 mod declarations;
+mod forms;
 mod heads;
 mod members;
 mod statements;
@@ -23,6 +24,10 @@ pub use cuts::{
 };
 pub use declarations::{
     other_lists, types_of_units, unfit_annotations, unfit_ends, unfit_orders, unfit_tokens, units,
+};
+pub use forms::{
+    casts_and_tests, classes_in_methods, classes_of_types, deep_type_arguments, heads_of_locals,
+    heads_of_methods, lambdas, no_types_end_in_expressions, references,
 };
 pub use heads::{parameters, static_heads, synchronized_members};
 pub use members::{

@@ -5,6 +5,7 @@ use Rattle.java_tree.specs.Operators.{assignment_level, conditional_level, relat
 use Rattle.java_tree.specs.Operators.{primary_level, binary_level}
 use Rattle.java_tree.specs.Formed.{level, is_variable, makes_array}
 use Rattle.java_parser_grammar.specs.Leads.{Lead, Assigns, Asks, Joins, Tests, Steps, Selects, Indexes, Opens, Ends}
+use Rattle.java_parser_grammar.specs.Leads.{Refers, Binds}
 
 -- whether an expression of a level of at least l does
 abbrev pub goes_on : ℕ → Expr → Lead → Bool
@@ -15,5 +16,7 @@ goes_on l a (Tests r) = nat_le l relational_level && nat_le relational_level (le
 goes_on l a (Steps op r) = nat_le l postfix_level && is_variable a
 goes_on l a (Selects r) = nat_le primary_level (level a)
 goes_on l a (Indexes r) = nat_le primary_level (level a) && not (makes_array a)
+goes_on l a (Refers r) = nat_le primary_level (level a)
 goes_on l a Opens = false
+goes_on l a Binds = false
 goes_on l a Ends = false

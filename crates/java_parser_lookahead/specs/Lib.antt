@@ -2,5 +2,5 @@ pub mod LeadView
 pub mod GoingOn
 pub mod NearerLevels
 pub mod MarkLeads
-pub mod FirstParenthesis
 pub mod StatementLeadView
+pub mod FirstParenthesis

@@ -1,19 +1,22 @@
-//! What the first token does behind an expression, and the choice between a cast and parentheses.
-ghost use Rattle.std.specs.Prelude.{◌≡◌, ◌&&◌, ◌||◌, suc, Some, None, MatchOption, length, map, bytes_eq};
+//! What the first token does behind an expression, and the choice between a lambda, a cast and parentheses.
+ghost use Rattle.std.specs.Prelude.{◌≡◌, suc, true, Some, None, ◌&&◌, ◌||◌, MatchOption, length, map, bytes_eq};
 ghost use Rattle.racer_base.specs.Name.{is_listed};
 ghost use Rattle.racer_base.specs.declared.ids.Place.{Place};
 ghost use Rattle.java_lexer.specs.declared.token.TokenKind.TheVariants as kind;
 ghost use Rattle.java_tree.specs.KeptPlaces.{kept, place_onto};
-ghost use Rattle.java_tree.specs.Operators.{is_assignment, is_step, is_prefix, is_signed};
+ghost use Rattle.java_tree.specs.Operators.{is_assignment, is_step, is_prefix};
 ghost use Rattle.java_parser_grammar.specs.Leads.{lead_of_angle, lead_of_sign, lead_of_word, lead, one_sign_operators};
-ghost use Rattle.java_parser_grammar.specs.Leads.{opens, opens_operand, opens_signed, is_plain_cast, casts};
-ghost use Rattle.java_parser_lookahead.specs.FirstParenthesis.{behind_first};
+ghost use Rattle.java_parser_grammar.specs.Leads.{opens_operand, opens_signed, behind, begins_lambda, is_plain_cast};
+ghost use Rattle.java_parser_grammar.specs.Leads.{binds, casts, ends_expression};
 ghost use Rattle.java_parser_types.specs.Tokens.{spelled};
-ghost use Rattle.java_parser_lookahead.specs.MarkLeads.{lead_of_mark};
+ghost use Rattle.java_parser_lookahead.specs.FirstParenthesis.{behind_first, nests};
+ghost use Rattle.java_parser_lookahead.specs.MarkLeads.{lead_of_mark, lead_of_last_mark};
 ghost use Rattle.java_parser_lookahead.specs.LeadView.{lead_of, places_behind, IsBelow};
 
+use super::lookahead::begins_with;
 use java_lexer::{Token, TokenKind};
-use java_parser_types::look::{after_glued, after_plain, after_sign, is_listed, is_sign};
+use java_parser_types::angles::{is_signed, opens, opens_word};
+use java_parser_types::look::{after_glued, after_plain, after_sign, is_listed, is_name, is_sign};
 
 /// JLS 15.26.
 const ASSIGNMENTS: [&[u8]; 12] = [
@@ -32,11 +35,8 @@ const STEPS: [&[u8]; 2] = [b"++", b"--"];
 /// JLS 15.15.
 const PREFIXES: [&[u8]; 6] = [b"+", b"-", b"!", b"~", b"++", b"--"];
 
-/// The prefix operators that could go on with an operand before them (JLS 15.16).
-const SIGNED: [&[u8]; 4] = [b"+", b"-", b"++", b"--"];
-
-/// The signs that begin an operand and are no operators between operands.
-const OPENING: [&[u8]; 3] = [b"(", b"!", b"~"];
+/// The signs behind the parameters of a lambda and behind the arguments of an anonymous class (JLS 15.27, 15.9.5).
+const BINDING: [&[u8]; 2] = [b"->", b"{"];
 
 /// What a first token begins behind an expression, and the tokens behind it.
 #[derive(Drop)]
@@ -48,8 +48,11 @@ pub enum Lead<'a> {
     Steps(&'a str, &'a [Token]),
     Selects(&'a [Token]),
     Indexes(&'a [Token]),
+    Refers(&'a [Token]),
     /// An operand, which goes on with no expression.
     Opens,
+    /// `->` or `{`, before which no whole expression stands.
+    Binds,
     Ends,
 }
 
@@ -84,16 +87,10 @@ pub fn is_prefix(text: &str) -> bool
     is_listed(&PREFIXES, text.as_bytes())
 }
 
-fn is_signed(text: &str) -> bool
-    ensures { result ≡ is_signed text.now }
+fn binds(text: &str) -> bool
+    ensures { result ≡ binds text.now }
 {
-    is_listed(&SIGNED, text.as_bytes())
-}
-
-fn opens(text: &str) -> bool
-    ensures { result ≡ opens text.now }
-{
-    is_listed(&OPENING, text.as_bytes())
+    is_listed(&BINDING, text.as_bytes())
 }
 
 /// Behind a `>`: the shifts have one or two glued `>` there (JLS 15.19).
@@ -141,6 +138,21 @@ fn lead_of_mark<'a>(text: &'a str, tokens: &'a [Token]) -> Lead<'a>
         Lead::Selects(tokens)
     } else if is_text(text, "[") {
         Lead::Indexes(tokens)
+    } else {
+        lead_of_last_mark(text, tokens)
+    }
+}
+
+/// Of one that goes on with no names and no elements.
+fn lead_of_last_mark<'a>(text: &'a str, tokens: &'a [Token]) -> Lead<'a>
+    ensures gives { lead_of result ≡ lead_of_last_mark text.now (map spelled tokens.now) }
+    ensures places { places_behind result (kept tokens.now) ≡ kept tokens.now }
+    ensures shorter { IsBelow result (suc (length tokens.now)) }
+{
+    if is_text(text, "::") {
+        Lead::Refers(tokens)
+    } else if binds(text) {
+        Lead::Binds
     } else if opens(text) {
         Lead::Opens
     } else {
@@ -156,7 +168,7 @@ fn lead_of_keyword<'a>(text: &'a str, tokens: &'a [Token]) -> Lead<'a>
 {
     if is_text(text, "instanceof") {
         Lead::Tests(tokens)
-    } else if is_text(text, "this") || is_text(text, "new") {
+    } else if opens_word(text) {
         Lead::Opens
     } else {
         Lead::Ends
@@ -190,6 +202,13 @@ pub fn opens_operand(tokens: &[Token]) -> bool
     matches!(lead_at(tokens), Lead::Opens)
 }
 
+/// Whether nothing in front goes on with an expression before it.
+pub fn ends_expression(tokens: &[Token]) -> bool
+    ensures { result ≡ ends_expression (map spelled tokens.now) }
+{
+    matches!(lead_at(tokens), Lead::Ends)
+}
+
 /// Whether `+`, `-`, `++` or `--` is in front.
 fn opens_signed(tokens: &[Token]) -> bool
     ensures { result ≡ opens_signed (map spelled tokens.now) }
@@ -197,6 +216,41 @@ fn opens_signed(tokens: &[Token]) -> bool
     match tokens {
         [token, ..] => {
             matches!(token.kind, TokenKind::Sign) && !token.glued && is_signed(token.text.as_str())
+        }
+        [] => false,
+    }
+}
+
+/// The tokens behind the `)` that closes a `(` before these.
+#[tactic(auto, unfolding(java_parser_grammar::specs::Leads::behind))]
+fn behind(tokens: &[Token]) -> &[Token]
+    ensures { map spelled result.now ≡ behind 0 (map spelled tokens.now) }
+{
+    let mut depth: usize = 0;
+    let mut rest = tokens;
+    while let [token, after @ ..] = rest {
+        if is_sign(token, "(") {
+            depth += 1;
+        } else if is_sign(token, ")") {
+            if depth == 0 {
+                return after;
+            }
+            depth -= 1;
+        }
+        rest = after;
+    }
+    rest
+}
+
+/// Whether a lambda begins here (JLS 15.27).
+#[tactic(auto, unfolding(java_parser_grammar::specs::Leads::begins_lambda))]
+pub fn begins_lambda(tokens: &[Token]) -> bool
+    ensures { result ≡ begins_lambda (map spelled tokens.now) }
+{
+    match tokens {
+        [token, rest @ ..] => {
+            (is_name(token) && begins_with(rest, "->"))
+                || (is_sign(token, "(") && begins_with(behind(rest), "->"))
         }
         [] => false,
     }
@@ -221,6 +275,24 @@ fn behind_first(tokens: &[Token]) -> Option<&[Token]>
     None
 }
 
+/// Whether a lambda begins here (JLS 15.27), where the first parenthesis behind a `(` tells: it does not where it is
+/// another `(`, and then what stands in the first is read before it is known. So nothing is passed over twice in
+/// looking ahead.
+#[tactic(auto, unfolding(java_parser_grammar::specs::Leads::begins_lambda))]
+pub fn seen_lambda(tokens: &[Token]) -> Option<bool>
+    ensures { MatchOption result (nests (map spelled tokens.now) ≡ true) (λ begins. begins_lambda
+        (map spelled tokens.now) ≡ begins) }
+{
+    match tokens {
+        [token, rest @ ..] if is_sign(token, "(") => match behind_first(rest) {
+            Some(behind) => Some(begins_with(behind, "->")),
+            None => None,
+        },
+        [token, rest @ ..] => Some(is_name(token) && begins_with(rest, "->")),
+        [] => Some(false),
+    }
+}
+
 /// Whether the word of a primitive type and `)` are in front.
 fn is_plain_cast(tokens: &[Token]) -> bool
     ensures { result ≡ is_plain_cast (map spelled tokens.now) }
@@ -240,8 +312,7 @@ fn casts_before(tokens: &[Token], rest: &[Token]) -> bool
 }
 
 /// Whether the tokens behind a `(` are those of a cast (JLS 15.16), where a `)` is the first parenthesis among them.
-/// With a `(` before it they are no type, and only what stands behind the `)` that closes them tells. So nothing is
-/// passed over twice in looking ahead.
+/// With a `(` before it they are no types, and only what stands behind the `)` that closes them tells.
 pub fn casts(tokens: &[Token]) -> Option<bool>
     ensures { MatchOption result (behind_first (map spelled tokens.now) ≡ None) (λ is_cast. casts
         (map spelled tokens.now) ≡ is_cast) }

@@ -9,7 +9,7 @@ ghost use Rattle.java_parser_lookahead.specs.NearerLevels.{nearer_level};
 
 use super::leads::{Lead, is_text};
 use java_parser_types::look::is_listed;
-use java_tree::Expression;
+use java_tree::{Expression, Made};
 
 /// JLS 15.21.
 const EQUALITIES: [&[u8]; 2] = [b"==", b"!="];
@@ -70,11 +70,11 @@ fn level(tree: &Expression) -> u32
     ensures { result ≡ level (expr_of tree.now) }
 {
     match tree {
-        Expression::Assign(_, _, _) => 0,
+        Expression::Assign(_, _, _) | Expression::Lambda(_) => 0,
         Expression::Conditional(_, _, _) => 1,
         Expression::Binary(_, operator, _) => binary_level(operator.as_str()),
-        Expression::InstanceOf(_, _) => 8,
-        Expression::Prefix(_, _) | Expression::Cast(_, _) => 12,
+        Expression::InstanceOf(_) => 8,
+        Expression::Prefix(_, _) | Expression::Cast(_) => 12,
         Expression::Postfix(_, _) => 13,
         _ => 14,
     }
@@ -94,10 +94,13 @@ pub fn is_variable(tree: &Expression) -> bool
 fn makes_array(tree: &Expression) -> bool
     ensures { result ≡ makes_array (expr_of tree.now) }
 {
-    matches!(
-        tree,
-        Expression::NewArray(_, _, _, _) | Expression::NewItems(_, _, _, _)
-    )
+    let Expression::New(new) = tree else {
+        return false;
+    };
+    match new.made {
+        Made::Array(_, _) | Made::Filled(_, _) => true,
+        Made::Object(_) | Made::Anonymous(_, _) => false,
+    }
 }
 
 /// Whether an expression of a level of at least `least` goes on with what the first token begins.
@@ -115,7 +118,8 @@ pub fn goes_on(least: u32, tree: &Expression, lead: &Lead<'_>) -> bool
         Lead::Steps(_, _) => least <= 13 && is_variable(tree),
         Lead::Selects(_) => level(tree) >= 14,
         Lead::Indexes(_) => level(tree) >= 14 && !makes_array(tree),
-        Lead::Opens | Lead::Ends => false,
+        Lead::Refers(_) => level(tree) >= 14,
+        Lead::Opens | Lead::Binds | Lead::Ends => false,
     }
 }
 

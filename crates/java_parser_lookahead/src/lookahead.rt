@@ -1,42 +1,25 @@
 //! Choices by the first tokens of a statement or a member.
-ghost use Rattle.std.specs.Prelude.{◌∷◌};
-ghost use Rattle.std.specs.Prelude.{◌≡◌, ◌<◌, ◌≤◌, ◌&&◌, ◌||◌, true, codes, Some, None, MatchOption, IfSome, false};
-ghost use Rattle.std.specs.Prelude.{IfOk};
+ghost use Rattle.std.specs.Prelude.{◌≡◌, ◌<◌, ◌∷◌, true, false, codes, Some, None, MatchOption, IfSome, IfOk};
 ghost use Rattle.std.specs.Prelude.{suc, length, map};
 ghost use Rattle.java_lexer.specs.declared.token.TokenKind.TheVariants as kind;
-ghost use Rattle.java_tree.specs.Formed.{is_method_modifier};
-ghost use Rattle.java_tree.specs.KeptPlaces.{kept, is_kept, place_onto};
+ghost use Rattle.java_tree.specs.KeptPlaces.{kept, is_kept};
 ghost use Rattle.java_tree.specs.Rows.{is_row};
-ghost use Rattle.java_parser_grammar.specs.Lookahead.{begins_row, Other, LabelWord};
+ghost use Rattle.java_parser_grammar.specs.Lookahead.{begins_row, begins_class, Other, LabelWord};
 ghost use Rattle.java_parser_types.specs.ReadAnswer.{Gives};
-ghost use Rattle.java_tree.specs.Brackets.{is_sign};
-ghost use Rattle.java_parser_grammar.specs.Lookahead.{begins_with, is_word_name, is_plain_type, goes_local};
-ghost use Rattle.java_parser_grammar.specs.Lookahead.{looks_local};
-ghost use Rattle.java_parser_grammar.specs.Lookahead.{name_and_colon, statement_lead, is_constructor};
-ghost use Rattle.java_parser_grammar.specs.Lookahead.{after_modifier};
+ghost use Rattle.java_tree.specs.Brackets.{is_class_word, is_word_name};
+ghost use Rattle.java_parser_grammar.specs.Leads.{begins_with};
+ghost use Rattle.java_parser_grammar.specs.Lookahead.{goes_local, looks_local, name_and_colon, statement_lead};
+ghost use Rattle.java_parser_grammar.specs.Lookahead.{is_constructor};
 ghost use Rattle.java_parser_lookahead.specs.StatementLeadView.{statement_lead_of, places_from, LeadIsBelow};
-ghost use Rattle.java_parser_lookahead.specs.StatementLeadView.{row_text};
-ghost use Rattle.java_parser_grammar.specs.StatementReading.{final_at};
+ghost use Rattle.java_parser_lookahead.specs.StatementLeadView.{class_or_label, row_text};
 ghost use Rattle.java_parser_grammar.specs.Taking.{after_keyword, after_name, match_option};
 ghost use Rattle.java_parser_types.specs.Tokens.{spelled};
 
 use java_lexer::{Token, TokenKind};
+use java_parser_types::angles::{in_arguments, is_angle_sign};
 use java_parser_types::error::ReadError;
-use java_parser_types::look::{
-    after_keyword, after_sign, is_keyword, is_listed, is_plain_word, is_sign,
-};
+use java_parser_types::look::{after_keyword, after_sign, is_keyword, is_plain_type, is_sign};
 use racer_base::Place;
-
-/// JLS 8.4.3.
-const METHOD_MODIFIERS: [&[u8]; 7] = [
-    b"public",
-    b"protected",
-    b"private",
-    b"static",
-    b"final",
-    b"synchronized",
-    b"strictfp",
-];
 
 /// A keyword that only one form of statements begins with.
 #[derive(Clone, Copy)]
@@ -64,6 +47,8 @@ pub enum StatementLead<'a> {
     ForWord(&'a [Token]),
     /// A name with a `:` behind it.
     Label(&'a Token, &'a [Token]),
+    /// A local class, with all of its tokens.
+    Class(&'a [Token]),
     Other,
 }
 
@@ -83,54 +68,73 @@ fn is_word_name(token: &Token) -> bool
     matches!(token.kind, TokenKind::Name) && !token.glued
 }
 
-fn is_plain_type(token: &Token) -> bool
-    ensures { result ≡ is_plain_type (spelled token.now) }
-{
-    matches!(token.kind, TokenKind::Keyword)
-        && !token.glued
-        && is_plain_word(token.text.as_str().as_bytes())
-}
-
-/// Whether a type's name ends before these tokens, with its variable, type arguments or `[ ]` behind it.
-fn ends_name(token: &Token, rest: &[Token]) -> bool
-    ensures { result ≡ (is_word_name (spelled token.now) || (is_sign (codes "<") (spelled token.now)
-        || (is_sign (codes "[") (spelled token.now) && begins_with (codes "]") (map spelled rest.now)))) }
-{
-    is_word_name(token) || is_sign(token, "<") || (is_sign(token, "[") && begins_with(rest, "]"))
-}
-
-/// Whether names joined by points go on as a type with its variable (JLS 14.4).
+/// Whether a type goes on here to the name of its variable (JLS 14.4).
 fn goes_local(tokens: &[Token]) -> bool
-    ensures { result ≡ goes_local true (map spelled tokens.now) }
+    ensures { result ≡ goes_local 0 (map spelled tokens.now) }
 {
-    let mut at_name = true;
+    let mut depth: usize = 0;
     let mut rest = tokens;
-    while let [first, after @ ..] = rest {
-        if at_name {
-            if !is_word_name(first) {
-                return false;
-            }
-            at_name = false;
-        } else {
-            if !is_sign(first, ".") {
-                return ends_name(first, after);
-            }
-            at_name = true;
-        }
+    while let [token, after @ ..] = rest {
         rest = after;
+        if is_sign(token, "<") {
+            depth += 1;
+        } else if is_sign(token, ".") {
+            let Some((_, behind)) = after_name(after) else {
+                return false;
+            };
+            rest = behind;
+        } else if is_sign(token, "[") {
+            let Some(behind) = after_sign(after, "]") else {
+                return false;
+            };
+            rest = behind;
+        } else if depth == 0 {
+            return is_word_name(token);
+        } else if is_angle_sign(token) {
+            depth -= 1;
+        } else if !in_arguments(token) {
+            return false;
+        }
     }
     false
 }
 
-/// Whether a declaration of variables begins here, where it or an expression does (JLS 14.4, 14.8). No token
-/// behind the names in front counts.
+/// Whether a declaration of variables begins here, where it or an expression does (JLS 14.4, 14.8).
 pub fn looks_local(tokens: &[Token]) -> bool
     ensures { result ≡ looks_local (map spelled tokens.now) }
 {
     match tokens {
-        [token, ..] => is_keyword(token, "final") || is_plain_type(token) || goes_local(tokens),
+        [token, rest @ ..] => {
+            is_keyword(token, "final")
+                || is_sign(token, "@")
+                || ((is_plain_type(token) || is_word_name(token)) && goes_local(rest))
+        }
         [] => false,
     }
+}
+
+/// Whether the token is a word of a local class (JLS 14.3).
+fn is_class_word(token: &Token) -> bool
+    ensures { result ≡ is_class_word (spelled token.now) }
+{
+    is_keyword(token, "final") || is_keyword(token, "abstract")
+}
+
+/// Whether a local class begins here (JLS 14.3).
+pub fn begins_class(tokens: &[Token]) -> bool
+    ensures { result ≡ begins_class (map spelled tokens.now) }
+{
+    let mut rest = tokens;
+    while let [token, after @ ..] = rest {
+        if is_keyword(token, "class") {
+            return true;
+        }
+        if !is_class_word(token) {
+            return false;
+        }
+        rest = after;
+    }
+    false
 }
 
 /// The token of a name with a `:` behind it, and the tokens behind that (JLS 14.14.2).
@@ -143,18 +147,6 @@ pub fn name_and_colon(tokens: &[Token]) -> Option<(&Token, &[Token])>
     match tokens {
         [token, rest @ ..] if is_word_name(token) => Some((token, after_sign(rest, ":")?)),
         _ => None,
-    }
-}
-
-/// Whether `final` stands in front, and the tokens behind it.
-pub fn final_at(tokens: &[Token]) -> (bool, &[Token])
-    ensures gives { (result.0, map spelled result.1.now) ≡ final_at (map spelled tokens.now) }
-    ensures places { kept result.1.now ≡ kept tokens.now }
-    ensures shorter { length result.1.now ≤ length tokens.now }
-{
-    match after_keyword(tokens, "final") {
-        Some(rest) => (true, rest),
-        None => (false, tokens),
     }
 }
 
@@ -249,8 +241,23 @@ fn label_of<'a>(token: &'a Token, rest: &'a [Token]) -> StatementLead<'a>
     }
 }
 
+/// What a statement begins with that begins with no keyword of one form and no sign.
+fn class_or_label<'a>(tokens: &'a [Token], token: &'a Token, rest: &'a [Token]) -> StatementLead<'a>
+    requires { tokens.now ≡ token.now ∷ rest.now }
+    ensures gives { statement_lead_of result ≡ class_or_label (map spelled tokens.now) }
+    ensures places { places_from result (kept tokens.now) ≡ kept tokens.now }
+    ensures shorter { LeadIsBelow result (length tokens.now) }
+{
+    if begins_class(tokens) {
+        StatementLead::Class(tokens)
+    } else {
+        label_of(token, rest)
+    }
+}
+
 /// What a statement begins with, by its first token and those behind it.
-fn lead_of<'a>(token: &'a Token, rest: &'a [Token]) -> StatementLead<'a>
+fn lead_of<'a>(tokens: &'a [Token], token: &'a Token, rest: &'a [Token]) -> StatementLead<'a>
+    requires { tokens.now ≡ token.now ∷ rest.now }
     ensures gives { statement_lead_of result ≡ statement_lead (spelled token.now ∷ map spelled rest.now) }
     ensures places { places_from result (kept (token.now ∷ rest.now)) ≡ kept (token.now ∷ rest.now) }
     ensures shorter { LeadIsBelow result (suc (length rest.now)) }
@@ -267,7 +274,7 @@ fn lead_of<'a>(token: &'a Token, rest: &'a [Token]) -> StatementLead<'a>
     } else if is_keyword(token, "for") {
         StatementLead::ForWord(rest)
     } else {
-        label_of(token, rest)
+        class_or_label(tokens, token, rest)
     }
 }
 
@@ -278,7 +285,7 @@ pub fn statement_lead(tokens: &[Token]) -> StatementLead<'_>
     ensures shorter { LeadIsBelow result (length tokens.now) }
 {
     match tokens {
-        [token, rest @ ..] => lead_of(token, rest),
+        [token, rest @ ..] => lead_of(tokens, token, rest),
         [] => StatementLead::Other,
     }
 }
@@ -290,28 +297,5 @@ pub fn is_constructor(tokens: &[Token]) -> bool
     match tokens {
         [token, rest @ ..] => is_word_name(token) && begins_with(rest, "("),
         [] => false,
-    }
-}
-
-fn is_method_modifier(text: &[u8]) -> bool
-    ensures { result ≡ is_method_modifier text.now }
-{
-    is_listed(&METHOD_MODIFIERS, text)
-}
-
-/// A modifier's word, and the tokens behind it (JLS 8.4.3).
-pub fn after_modifier(tokens: &[Token]) -> Option<(&Token, &[Token])>
-    ensures gives { MatchOption result (after_modifier (map spelled tokens.now) ≡ None) (λ x. after_modifier
-        (map spelled tokens.now) ≡ Some (x.0.now.text, map spelled x.1.now)) }
-    ensures places { IfSome result (λ x. place_onto kind.Keyword x.0.now.text x.0.now.place (kept x.1.now)
-        ≡ kept tokens.now) }
-    ensures shorter { IfSome result (λ x. length x.1.now < length tokens.now) }
-{
-    match tokens {
-        [token, rest @ ..]
-            if matches!(token.kind, TokenKind::Keyword)
-                && !token.glued
-                && is_method_modifier(token.text.as_str().as_bytes()) => { Some((token, rest)) }
-        _ => None,
     }
 }

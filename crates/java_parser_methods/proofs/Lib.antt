@@ -1,5 +1,5 @@
 pub mod AnnotationLoops
-pub mod BracketLoops
+pub mod ModifierLoops
 pub mod ForHeads
 pub mod StatementLoops
 pub mod RowLoops
@@ -8,6 +8,8 @@ pub mod PartLoops
 pub mod StatementParts
 pub mod WholeMethods
 pub mod LedMarks
+pub mod ClassLoops
+pub mod StatementShapes
 pub mod SameMarks
 pub mod SignatureSteps
 pub mod PassedOn

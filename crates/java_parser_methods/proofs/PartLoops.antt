@@ -12,7 +12,7 @@ use Rattle.java_tree.specs.Trees.{Pieces, Several, no_row, row_then, Stmts}
 use Rattle.java_tree.specs.View.{pack_rows}
 use Rattle.java_parser_types.specs.declared.error.ReadError.{ReadError}
 use Rattle.java_parser_types.specs.declared.error.ReadError.TheVariants.{Memory, Unformed}
-use Rattle.java_parser_grammar.specs.ExpressionReading.{Reading}
+use Rattle.java_parser_grammar.specs.BalancedReading.{Reading}
 use Rattle.java_parser_grammar.specs.Taking.{◌>>=◌}
 use Rattle.java_parser_grammar.specs.Readers.{Readers}
 use Rattle.java_parser_grammar.specs.StatementReading.{again_at}
@@ -21,6 +21,7 @@ use Rattle.java_parser_parts.proofs.NextParts.{clause_next, last_next, nothing_n
 use Rattle.java_parser_methods.specs.RowReading.{rows_onto, parts_finished, parts_left, finally_at}
 use Rattle.java_parser_methods.proofs.RowLoops.{one_left, as_many}
 use Rattle.java_parser_types.proofs.PutPlaces.{one_put}
+use Rattle.java_parser_types.specs.LedPlaces.{Leads}
 use Rattle.java_parser_types.specs.Tokens.{spelled}
 use Rattle.java_parser_types.specs.ReadAnswer.{Fails}
 
@@ -148,17 +149,18 @@ abbrev last_puts : Option (Vec Statement Global) → Puts
 last_puts last = maybe_puts (option_map (λ ss. each_puts (map stmt_places ss.items)) last)
 
 pub clause_put : (items : List CatchTree) (last : Option (Vec Statement Global)) (n : CatchTree) (ts r : List Spelled)
-    (here there at : Places) → Clause r ≡ next_part (is_some last) ts → catch_places n there ≡ here
-    → each_puts (map catch_places items) (last_puts last here) ≡ at
-    → each_puts (map catch_places (items ++ n ∷ [])) (last_puts last there) ≡ at
-clause_put items (Some b) n ts r here there at next e so_far = absurd cc
-clause_put items None n ts r here there at next e so_far = one_put catch_places items n here there at e so_far
+    (start here there : Places) → Clause r ≡ next_part (is_some last) ts → Leads (catch_places n) here there
+    → Leads (λ rest. each_puts (map catch_places items) (last_puts last rest)) start here
+    → Leads (λ rest. each_puts (map catch_places (items ++ n ∷ [])) (last_puts last rest)) start there
+clause_put items (Some b) n ts r start here there next led so_far = absurd cc
+clause_put items None n ts r start here there next led so_far =
+    one_put catch_places items n start here there led so_far
 
 pub last_put : (items : List CatchTree) (last : Option (Vec Statement Global)) (b : Vec Statement Global)
-    (ts r : List Spelled) (here there at : Places) → Last r ≡ next_part (is_some last) ts
-    → each_puts (map stmt_places b.items) there ≡ here
-    → each_puts (map catch_places items) (last_puts last here) ≡ at
-    → each_puts (map catch_places items) (each_puts (map stmt_places b.items) there) ≡ at
-last_put items (Some a) b ts r here there at next e so_far = absurd cc
-last_put items None b ts r here there at next e so_far =
-    ap (λ (ps : Places). each_puts (map catch_places items) ps) e ∙ so_far
+    (ts r : List Spelled) (start here there : Places) → Last r ≡ next_part (is_some last) ts
+    → Leads (each_puts (map stmt_places b.items)) here there
+    → Leads (λ rest. each_puts (map catch_places items) (last_puts last rest)) start here
+    → Leads (λ rest. each_puts (map catch_places items) (each_puts (map stmt_places b.items) rest)) start there
+last_put items (Some a) b ts r start here there next led so_far = absurd cc
+last_put items None b ts r start here there next led so_far =
+    λ rest at. so_far (each_puts (map stmt_places b.items) rest) (led rest at)

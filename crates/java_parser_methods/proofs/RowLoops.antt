@@ -5,16 +5,16 @@ use Rattle.std.proofs.lemmas.List.{length-map}
 use Rattle.std.specs.Prelude.{is_some, ◌||◌, if◌then◌else◌}
 use Rattle.java_lexer.specs.declared.token.Token.{Token}
 use Rattle.java_tree.specs.declared.words.Spelled.{Spelled}
-use Rattle.java_tree.specs.Trees.{Ty, Stmt, Label, Resource, Resources, Groups}
+use Rattle.java_tree.specs.Trees.{Stmt, Label, Resource, Resources, Groups}
 use Rattle.java_tree.specs.Trees.{no_group, group_then, Stmts, pack_stmts}
-use Rattle.java_tree.specs.Formed.{has_some}
+use Rattle.java_tree.specs.FormedModifiers.{has_some}
 use Rattle.java_tree.specs.View.{Group, pack_groups}
 use Rattle.java_parser_types.specs.declared.error.ReadError.{ReadError}
 use Rattle.java_parser_types.specs.declared.error.ReadError.TheVariants.{Memory, Unformed}
-use Rattle.java_parser_grammar.specs.ExpressionReading.{Reading}
+use Rattle.java_parser_grammar.specs.BalancedReading.{Reading}
 use Rattle.java_parser_grammar.specs.Taking.{◌>>=◌, match_option, after_sign}
 use Rattle.java_parser_grammar.specs.Readers.{Readers}
-use Rattle.java_parser_grammar.specs.StatementReading.{named_at, bars_at, begins_label, labels_at}
+use Rattle.java_parser_grammar.specs.StatementReading.{begins_label, labels_at}
 use Rattle.java_parser_grammar.specs.StatementReading.{group_stmts_at, groups_at, resource_at}
 use Rattle.java_parser_grammar.specs.StatementReading.{more_resources_at}
 use Rattle.java_parser_methods.specs.RowReading.{groups_onto, groups_finished, group_at}
@@ -48,57 +48,6 @@ none_behind front None = refl
 pub no_resource : (ts : List Token) → length ts ≤ 0 → resource_behind (map spelled ts) ≡ None
 no_resource [] le = refl
 no_resource (t ∷ ts) le = absurd (omega arith)
-
--- ---- types behind `|`
-
-module _ (readers : Readers) (n : ℕ) (total : Option (List Ty × List Spelled)) (tokens : List Token) (i : ℕ)
-    (front : List Ty) where
-  pub bar_goes_on : (x : Ty) (here after rest : List Spelled) → i < length tokens
-      → after_sign (codes "|") here ≡ Some after → named_at readers n after ≡ Some (x, rest)
-      → finished as_they_are front (bars_at readers n (length (map spelled tokens) - i) here) ≡ total
-      → finished as_they_are (front ++ x ∷ []) (bars_at readers n (length (map spelled tokens) - (i + 1)) rest) ≡ total
-  unfolding bars_at
-  bar_goes_on x here after rest lt g h so_far =
-      let k = some_left tokens i lt in
-      let one : finished as_they_are front (bars_at readers n (length (map spelled tokens) - i) here) ≡ finished
-      as_they_are (front ++ x ∷ []) (bars_at readers n (length (map spelled tokens) - (i + 1)) rest) =
-      rw (k, g, h) (regroup as_they_are front x (bars_at readers n (length (map spelled tokens) - (i + 1)) rest)) in
-      sym one ∙ so_far
-
-  pub bar_fails : (e : ReadError) (here after : List Spelled) → i < length tokens
-      → after_sign (codes "|") here ≡ Some after → Fails e (named_at readers n after)
-      → finished as_they_are front (bars_at readers n (length (map spelled tokens) - i) here) ≡ total → Fails e total
-  unfolding bars_at
-  bar_fails Memory here after lt g h so_far = tt
-  bar_fails Unformed here after lt g h so_far =
-      let k = some_left tokens i lt in
-      let one : finished as_they_are front (bars_at readers n (length (map spelled tokens) - i) here) ≡ None =
-      rw (k, g, h) refl in
-      sym so_far ∙ one
-
-  pub bar_ends : (rest : List Spelled) → i < length tokens → after_sign (codes "|") rest ≡ None
-      → finished as_they_are front (bars_at readers n (length (map spelled tokens) - i) rest) ≡ total
-      → total ≡ Some (front, rest)
-  unfolding bars_at
-  bar_ends rest lt h so_far =
-      let k = some_left tokens i lt in
-      let one : finished as_they_are front (bars_at readers n (length (map spelled tokens) - i) rest) ≡ Some (
-        front,
-        rest,
-      ) = rw (k, h) (ap (λ (xs : List Ty). as_they_are (xs, rest)) (append-nil front)) in
-      sym so_far ∙ one
-
-  pub bar_runs_out : (rest : List Spelled) → length tokens ≤ i
-      → finished as_they_are front (bars_at readers n (length (map spelled tokens) - i) rest) ≡ total
-      → total ≡ Some (front, rest)
-  unfolding bars_at
-  bar_runs_out rest le so_far =
-      let k = none_left tokens i le in
-      let one : finished as_they_are front (bars_at readers n (length (map spelled tokens) - i) rest) ≡ Some (
-        front,
-        rest,
-      ) = rw k (ap (λ (xs : List Ty). as_they_are (xs, rest)) (append-nil front)) in
-      sym so_far ∙ one
 
 -- ---- the statements of a group
 

@@ -1,10 +1,23 @@
--- A `do`, a `switch` and a statement behind a name, by their parts.
-use Rattle.std.proofs.Common.{◌≡◌, ℕ, Bool, true, false, List, length, codes, Option, Some, None, if◌then◌else◌, refl}
+-- A `do`, a `switch`, a statement behind a name, a clause and a group, by their parts.
+use Rattle.std.proofs.Common.{◌≡◌, ℕ, Bool, true, false, List, length, map, codes, Option, Some, None, if◌then◌else◌}
+use Rattle.std.proofs.Common.{refl}
+use Rattle.std.proofs.Common.{sym, subst, rules}
+use Rattle.std.specs.Global.{Vec}
+use Rattle.java_tree.specs.declared.statements.CatchParameterTree.{CatchParameterTree}
+use Rattle.java_tree.specs.declared.statements.LabelTree.{LabelTree}
+use Rattle.java_tree.specs.declared.statements.Statement.{Statement}
+use Rattle.java_tree.specs.declared.statements.CatchTree.{roll-CatchTree}
+use Rattle.java_tree.specs.declared.statements.GroupTree.{roll-GroupTree}
+use Rattle.java_tree.specs.declared.statements.Statement.TheFolds.{the_lemmas}
+use Rattle.java_tree.specs.KeptPlaces.{Places, Puts, each_puts, stmt_places, catch_parameter_places, catch_places}
+use Rattle.java_tree.specs.KeptPlaces.{label_places, group_places}
+use Rattle.java_parser_types.specs.LedPlaces.{Leads}
+use Rattle.java_parser_types.proofs.LedMarks.{both_led}
 use Rattle.java_tree.specs.declared.words.Spelled.{Spelled}
 use Rattle.java_tree.specs.Formed.{is_body}
 use Rattle.java_tree.specs.Rows.{Switch}
 use Rattle.java_tree.specs.Trees.{Expr, Stmt, Stmts, Labelled, Groups}
-use Rattle.java_parser_grammar.specs.ExpressionReading.{Reading}
+use Rattle.java_parser_grammar.specs.BalancedReading.{Reading}
 use Rattle.java_parser_grammar.specs.Taking.{◌>>=◌, after_sign, after_keyword}
 use Rattle.java_parser_grammar.specs.Readers.{Readers}
 use Rattle.java_parser_grammar.specs.StatementReading.{body_at, condition_at, groups_at, pieces_at, row_at}
@@ -84,3 +97,25 @@ body_or_none x y false = refl
 pub label_by_body : (readers : Readers) (read : Reading Stmt) (x : List ℕ) (s : Stmt) (ts r : List Spelled)
     → read ts ≡ Some (s, r) → labelled_at readers read x ts ≡ labelled_with x s r
 label_by_body readers read x s ts r e = rw e (body_or_none x (s, r) (is_body s))
+
+-- ---- from the places of parts to those behind them
+
+pub catch_led : (p : CatchParameterTree) (body : Vec Statement) (here at left : Places)
+    → Leads (catch_parameter_places p) here at → Leads (each_puts (map stmt_places body.items)) at left
+    → Leads (catch_places (roll-CatchTree (record { parameter = p; body = body }))) here left
+catch_led p body here at left first second =
+    let parts : Puts = λ rest. catch_parameter_places p (each_puts (map stmt_places body.items) rest) in
+    let same : catch_places (roll-CatchTree (record { parameter = p; body = body })) ≡ parts =
+    search (rules, the_lemmas) in
+    subst (λ (f : Puts). Leads f here left) (sym same) (both_led (catch_parameter_places p)
+    (each_puts (map stmt_places body.items)) here at left first second)
+
+pub group_led : (labels : List LabelTree) (body : Vec Statement) (here at left : Places)
+    → Leads (each_puts (map label_places labels)) here at → Leads (each_puts (map stmt_places body.items)) at left
+    → Leads (group_places (roll-GroupTree (record { labels = labels; body = body }))) here left
+group_led labels body here at left first second =
+    let parts : Puts = λ rest. each_puts (map label_places labels) (each_puts (map stmt_places body.items) rest) in
+    let same : group_places (roll-GroupTree (record { labels = labels; body = body })) ≡ parts =
+    search (rules, the_lemmas) in
+    subst (λ (f : Puts). Leads f here left) (sym same) (both_led (each_puts (map label_places labels))
+    (each_puts (map stmt_places body.items)) here at left first second)

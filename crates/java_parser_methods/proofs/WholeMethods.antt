@@ -5,7 +5,7 @@ use Rattle.java_tree.specs.declared.methods.MethodTree.{MethodTree}
 use Rattle.java_tree.specs.declared.words.Spelled.{Spelled}
 use Rattle.java_tree.specs.Trees.{Method}
 use Rattle.java_tree.specs.Spelling.{spelling}
-use Rattle.java_tree.specs.Formed.{FormedMethod}
+use Rattle.java_tree.specs.FormedMethods.{FormedMethod}
 use Rattle.java_tree.specs.Nesting.{method_nesting}
 use Rattle.java_tree.specs.View.{method_of}
 use Rattle.java_parser_types.specs.declared.error.ReadError.{ReadError}

@@ -2,8 +2,10 @@ pub mod HeadReading
 pub mod RowReading
 pub mod TryView
 pub mod HeadView
-pub mod AwaitedBrackets
 pub mod ModifierReading
-pub mod LedPlaces
 pub mod PlacedMethods
 pub mod SignatureReading
+pub mod ClassReading
+pub mod LocalReading
+pub mod TypedReading
+pub mod TypeParameterReading

@@ -2,16 +2,20 @@
 use Rattle.std.specs.Prelude.{ℕ, suc, Bool, true, false, List, [], ◌∷◌, ◌++◌, length, Option, Some, None, codes}
 use Rattle.std.specs.Prelude.{if◌then◌else◌, ◌||◌, is_some, option_map}
 use Rattle.java_tree.specs.declared.words.Spelled.{Spelled}
-use Rattle.java_tree.specs.Formed.{has_some, is_body}
+use Rattle.java_tree.specs.Formed.{is_body}
+use Rattle.java_tree.specs.Operators.{assignment_level}
+use Rattle.java_tree.specs.FormedModifiers.{has_some}
 use Rattle.java_tree.specs.Rows.{Do, Try, catch_row}
-use Rattle.java_tree.specs.Trees.{Ty, Resource, Resources, Stmt, Stmts, pack_stmts, Labelled, Pieces, Several, no_row}
+use Rattle.java_tree.specs.Trees.{Modifier, Ty, Resource, Resources, Stmt, Stmts, pack_stmts, Labelled, Pieces}
+use Rattle.java_tree.specs.Trees.{Several, no_row}
 use Rattle.java_tree.specs.Trees.{row_then, Groups, group_then}
 use Rattle.java_tree.specs.View.{Finally, Group}
-use Rattle.java_parser_grammar.specs.ExpressionReading.{Reading}
-use Rattle.java_parser_grammar.specs.Taking.{◌>>=◌, match_option, after_sign, after_keyword}
+use Rattle.java_parser_grammar.specs.BalancedReading.{Reading}
+use Rattle.java_parser_grammar.specs.Taking.{◌>>=◌, match_option, after_sign, after_keyword, after_name}
 use Rattle.java_parser_grammar.specs.Readers.{Readers}
 use Rattle.java_parser_grammar.specs.StatementReading.{body_at, labels_at, group_stmts_at, maybe_resources_at}
-use Rattle.java_parser_grammar.specs.StatementReading.{named_at, bars_at, again_at, pieces_at}
+use Rattle.java_parser_grammar.specs.StatementReading.{named_at, again_at, pieces_at}
+use Rattle.java_parser_grammar.specs.TypeReading.{between_each}
 use Rattle.java_parser_parts.specs.Parts.{has_row, last_condition_at}
 
 -- this statement, and the tokens behind it
@@ -84,12 +88,17 @@ module _ (readers : Readers) where
     s ← body_at readers read ts
     Some (Labelled x s.0, s.1)
 
+  -- a resource behind these modifiers and this type
+  unfoldable pub resource_from : ℕ → List Modifier × Ty → Reading Resource
+  resource_from n front ts = do
+    x ← after_name ts
+    r ← after_sign (codes "=") x.1
+    e ← readers.expr n assignment_level r
+    Some (record { modifiers = front.0; kind = front.1; name = x.0; value = e.0 }, e.1)
+
   -- the types of a `catch`
   abbrev pub caught_at : ℕ → Reading (List Ty)
-  caught_at n ts = do
-    first ← named_at readers n ts
-    others ← bars_at readers n (length first.1) first.1
-    Some (first.0 ∷ others.0, others.1)
+  caught_at n ts = between_each (codes "|") (named_at readers n) ts
 
   -- labels and the statements behind them
   abbrev pub group_at : Reading Stmt → ℕ → Reading Group

@@ -1,24 +1,23 @@
-//! Reading annotations and modifiers (JLS 8.4.3, 9.7).
-ghost use Rattle.std.specs.Prelude.{◌<◌, ◌≤◌, [], ◌∷◌, length, map, option_map, IfOk, IfSome};
-ghost use Rattle.java_tree.specs.KeptPlaces.{Places, kept};
-ghost use Rattle.java_tree.specs.MethodPlaces.{no_name, annotation_marks, modifier_marks, each_marks};
-ghost use Rattle.java_parser_methods.specs.LedPlaces.{Leads};
-ghost use Rattle.java_tree.specs.View.{annotation_of, modifier_of};
+//! Reading annotations (JLS 9.7).
+ghost use Rattle.std.specs.Prelude.{◌<◌, ◌≤◌, [], ◌∷◌, length, map, IfOk};
+ghost use Rattle.java_tree.specs.KeptPlaces.{kept};
+ghost use Rattle.java_tree.specs.KeptPlaces.{no_name, no_places, annotation_marks, each_marks};
+ghost use Rattle.java_parser_types.specs.LedPlaces.{Leads, LeadsOn};
+ghost use Rattle.java_tree.specs.View.{annotation_of};
 ghost use Rattle.java_parser_grammar.specs.Taking.{after_name};
 ghost use Rattle.java_parser_grammar.specs.TypeReading.{points};
-ghost use Rattle.java_parser_grammar.specs.MethodReading.{names_at, annotation_at, annotations_at, modifiers_at};
-ghost use Rattle.java_parser_methods.specs.ModifierReading.{modifier_at};
+ghost use Rattle.java_parser_grammar.specs.BalancedReading.{arguments_at, annotation_at, annotations_at};
 ghost use Rattle.java_parser_types.specs.Tokens.{spelled};
 ghost use Rattle.java_parser_types.specs.Finishing.{finished};
 ghost use Rattle.java_parser_types.specs.Endings.{as_they_are};
 ghost use Rattle.java_parser_types.specs.ReadAnswer.{Gives};
 
-use super::brackets::arguments;
 use java_lexer::Token;
-use java_parser_lookahead::lookahead::after_modifier;
+use java_parser_lookahead::lookahead::begins_with;
+use java_parser_types::brackets::{Bracket, between};
 use java_parser_types::error::ReadError;
 use java_parser_types::look::{after_sign, name};
-use java_tree::{AnnotationTree, ModifierTree};
+use java_tree::{AnnotationTree, Spelled};
 use racer_base::{Items, Text};
 use std::alloc::Global;
 
@@ -30,8 +29,8 @@ fn more_names(
 ) -> Result<(Vec<Text>, &[Token]), ReadError>
     ensures gives { Gives (λ x. (x.0.items, map spelled x.1.now)) result (finished as_they_are (first ∷ [])
         (points after_name (length (map spelled tokens.now)) (map spelled tokens.now))) }
-    ensures places { IfOk result (λ x. (start : Places) → Leads (no_name first) start (kept tokens.now)
-        → Leads (each_marks no_name x.0.items) start (kept x.1.now)) }
+    ensures places { IfOk result (λ x. LeadsOn (no_name first) (each_marks no_name x.0.items) (kept tokens.now)
+        (kept x.1.now)) }
     ensures shorter { IfOk result (λ x. length x.1.now ≤ length tokens.now) }
 {
     let mut items = Vec::new(alloc);
@@ -48,8 +47,20 @@ fn more_names(
     Ok((items, rest))
 }
 
+/// One pair of parentheses with balanced tokens in it, where it stands.
+fn arguments(alloc: Global, tokens: &[Token]) -> Result<(Vec<Spelled>, &[Token]), ReadError>
+    ensures gives { Gives (λ x. (x.0.items, map spelled x.1.now)) result (arguments_at (map spelled tokens.now)) }
+    ensures places { IfOk result (λ x. Leads (no_places x.0.items) (kept tokens.now) (kept x.1.now)) }
+    ensures shorter { IfOk result (λ x. length x.1.now ≤ length tokens.now) }
+{
+    if begins_with(tokens, "(") {
+        return between(alloc, Bracket::Round, tokens);
+    }
+    Ok((Vec::new(alloc), tokens))
+}
+
 /// An annotation behind its `@`.
-#[tactic(auto, unfolding(java_parser_grammar::specs::MethodReading::annotation_at, java_parser_grammar::specs::MethodReading::names_at))]
+#[tactic(auto, unfolding(java_parser_grammar::specs::BalancedReading::annotation_at, java_parser_grammar::specs::BalancedReading::names_at))]
 pub fn annotation(alloc: Global, tokens: &[Token]) -> Result<(AnnotationTree, &[Token]), ReadError>
     ensures gives { Gives (λ x. (annotation_of x.0, map spelled x.1.now)) result
         (annotation_at (map spelled tokens.now)) }
@@ -82,47 +93,6 @@ pub fn annotations(
             return Ok((items, rest));
         };
         let (next, after) = annotation(alloc, after)?;
-        items.push(next)?;
-        rest = after;
-    }
-    Err(ReadError::Unformed)
-}
-
-/// A word or an annotation among the modifiers, where one stands.
-fn modifier(alloc: Global, tokens: &[Token]) -> Result<Option<(ModifierTree, &[Token])>, ReadError>
-    ensures gives { Gives (option_map (λ x. (modifier_of x.0, map spelled x.1.now))) result
-        (modifier_at (map spelled tokens.now)) }
-    ensures places { IfOk result (λ o. IfSome o (λ x. Leads (modifier_marks x.0) (kept tokens.now)
-        (kept x.1.now))) }
-    ensures shorter { IfOk result (λ o. IfSome o (λ x. length x.1.now < length tokens.now)) }
-{
-    if let Some(after) = after_sign(tokens, "@") {
-        let (annotation, rest) = annotation(alloc, after)?;
-        return Ok(Some((ModifierTree::Annotated(annotation), rest)));
-    }
-    let Some((word, rest)) = after_modifier(tokens) else {
-        return Ok(None);
-    };
-    let text = Text::from_str(alloc, word.text.as_str())?;
-    Ok(Some((ModifierTree::Word(text), rest)))
-}
-
-/// Words and annotations, as long as they come.
-pub fn modifiers(
-    alloc: Global,
-    tokens: &[Token],
-) -> Result<(Vec<ModifierTree>, &[Token]), ReadError>
-    ensures gives { Gives (λ x. (map modifier_of x.0.items, map spelled x.1.now)) result
-        (modifiers_at (length (map spelled tokens.now)) (map spelled tokens.now)) }
-    ensures places { IfOk result (λ x. Leads (each_marks modifier_marks x.0.items) (kept tokens.now) (kept x.1.now)) }
-    ensures shorter { IfOk result (λ x. length x.1.now ≤ length tokens.now) }
-{
-    let mut items = Vec::new(alloc);
-    let mut rest = tokens;
-    for _ in 0..tokens.len() {
-        let Some((next, after)) = modifier(alloc, rest)? else {
-            return Ok((items, rest));
-        };
         items.push(next)?;
         rest = after;
     }

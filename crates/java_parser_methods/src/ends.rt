@@ -4,6 +4,7 @@ ghost use Rattle.java_tree.specs.KeptPlaces.{kept, stmt_places};
 ghost use Rattle.java_tree.specs.View.{stmt_of};
 ghost use Rattle.java_parser_grammar.specs.JavaReaders.{method_readers};
 ghost use Rattle.java_parser_methods.specs.RowReading.{do_end_at};
+ghost use Rattle.java_parser_types.specs.LedPlaces.{LeadsOn};
 ghost use Rattle.java_parser_types.specs.Tokens.{spelled};
 ghost use Rattle.java_parser_types.specs.ReadAnswer.{Gives};
 
@@ -25,8 +26,8 @@ pub fn do_end(
     requires room { suc (suc limit) < 2 ^ 32 }
     ensures gives { Gives (λ x. (stmt_of x.0.value, map spelled x.1.now)) result (do_end_at method_readers limit
         (stmt_of body.value) (map spelled tokens.now)) }
-    ensures places { IfOk result (λ x. stmt_places x.0.value (kept x.1.now) ≡ stmt_places body.value
-        (kept tokens.now)) }
+    ensures places { IfOk result (λ x. LeadsOn (stmt_places body.value) (stmt_places x.0.value) (kept tokens.now) (kept
+        x.1.now)) }
     ensures shorter { IfOk result (λ x. length x.1.now ≤ length tokens.now) }
 {
     let (condition, rest) = last_condition(alloc, limit, tokens)?;

@@ -1,29 +1,31 @@
 //! Reading what stands in the parentheses of a `for`, and expressions that statements run (JLS 14.8, 14.14).
-ghost use Rattle.std.specs.Prelude.{◌++◌};
 ghost use Rattle.std.specs.Prelude.{◌≡◌, ◌<◌, ◌≤◌, ◌^◌, suc, Some, [], ◌∷◌, length, map, option_map, IfOk};
-ghost use Rattle.java_tree.specs.KeptPlaces.{kept, maybe_puts, each_puts, ty_places, expr_places, start_places};
+ghost use Rattle.java_tree.specs.KeptPlaces.{Marks, kept, maybe_puts, each_puts, expr_places, start_places};
 ghost use Rattle.java_tree.specs.Formed.{is_run};
-ghost use Rattle.java_tree.specs.View.{ty_of, expr_of, start_of};
+ghost use Rattle.java_tree.specs.View.{expr_of, start_of};
 ghost use Rattle.java_parser_grammar.specs.Taking.{commas};
 ghost use Rattle.java_parser_grammar.specs.StatementReading.{expr_until, run_at, runs_until};
 ghost use Rattle.java_parser_methods.specs.HeadReading.{counted_head_at, each_head_at, declared_head_at, typed_head_at};
 ghost use Rattle.java_parser_methods.specs.HeadReading.{run_head_at, head_at};
-ghost use Rattle.java_parser_methods.specs.HeadView.{head_of, head_places};
+ghost use Rattle.java_parser_methods.specs.HeadView.{each_of, each_places, head_of, head_places};
+ghost use Rattle.java_parser_methods.specs.TypedReading.{typed_of, typed_places};
 ghost use Rattle.java_parser_grammar.specs.JavaReaders.{method_readers};
+ghost use Rattle.java_parser_types.specs.LedPlaces.{Leads, LeadsOn};
 ghost use Rattle.java_parser_types.specs.Tokens.{spelled};
 ghost use Rattle.java_parser_types.specs.Finishing.{finished};
 ghost use Rattle.java_parser_types.specs.Endings.{as_they_are};
 ghost use Rattle.java_parser_types.specs.ReadAnswer.{Gives};
 
-use super::locals::{boxed_type, variables};
+use super::locals::variables;
+use super::typed::{TypedFront, typed};
 use java_lexer::Token;
 use java_parser_expressions::expressions::read_expression;
 use java_parser_expressions::nested::push_tree;
 use java_parser_lookahead::leads::is_step;
-use java_parser_lookahead::lookahead::{begins_with, final_at, looks_local, name_and_colon};
+use java_parser_lookahead::lookahead::{begins_with, looks_local, name_and_colon};
 use java_parser_types::error::ReadError;
 use java_parser_types::look::{after_sign, ident, sign};
-use java_tree::{Apart, Expression, Ident, StartTree, TypeTree};
+use java_tree::{EachTree, Expression, Made, StartTree};
 use racer_base::Items;
 use std::alloc::Global;
 
@@ -32,8 +34,8 @@ use std::alloc::Global;
 pub enum ForHead {
     /// JLS 14.14.1.
     Counted(Box<StartTree>, Option<Box<Expression>>, Vec<Expression>),
-    /// JLS 14.14.2, and whether `final` stands.
-    Each(bool, Box<TypeTree>, Apart<Ident>, Box<Expression>),
+    /// JLS 14.14.2.
+    Each(Box<EachTree>, Box<Expression>),
 }
 
 /// Whether an expression is one that a statement can be (JLS 14.8).
@@ -41,10 +43,8 @@ fn is_run(tree: &Expression) -> bool
     ensures { result ≡ is_run (expr_of tree.now) }
 {
     match tree {
-        Expression::Assign(_, _, _)
-        | Expression::Postfix(_, _)
-        | Expression::Call(_, _, _)
-        | Expression::New(_, _, _) => true,
+        Expression::Assign(_, _, _) | Expression::Postfix(_, _) | Expression::Call(_) => true,
+        Expression::New(tree) => matches!(tree.made, Made::Object(_) | Made::Anonymous(_, _)),
         Expression::Prefix(operator, _) => is_step(operator.as_str()),
         _ => false,
     }
@@ -61,8 +61,8 @@ pub fn expression_until<'a>(
     requires room { suc (suc limit) < 2 ^ 32 }
     ensures gives { Gives (λ x. (option_map (λ e. expr_of e.value) x.0, map spelled x.1.now)) result
         (expr_until method_readers limit end.now (map spelled tokens.now)) }
-    ensures places { IfOk result (λ x. maybe_puts (option_map (λ e. expr_places e.value) x.0) (kept x.1.now)
-        ≡ kept tokens.now) }
+    ensures places { IfOk result (λ x. Leads (maybe_puts (option_map (λ e. expr_places e.value) x.0)) (kept tokens.now)
+        (kept x.1.now)) }
     ensures shorter { IfOk result (λ x. length x.1.now ≤ length tokens.now) }
 {
     if begins_with(tokens, end) {
@@ -82,7 +82,7 @@ pub fn run(
     requires room { suc (suc limit) < 2 ^ 32 }
     ensures gives { Gives (λ x. (expr_of x.0.value, map spelled x.1.now)) result (run_at method_readers limit
         (map spelled tokens.now)) }
-    ensures places { IfOk result (λ x. expr_places x.0.value (kept x.1.now) ≡ kept tokens.now) }
+    ensures places { IfOk result (λ x. Leads (expr_places x.0.value) (kept tokens.now) (kept x.1.now)) }
     ensures shorter { IfOk result (λ x. length x.1.now ≤ length tokens.now) }
 {
     let (run, rest) = read_expression(alloc, limit, 0, tokens)?;
@@ -104,8 +104,8 @@ fn more_runs(
     ensures gives { Gives (λ x. (map expr_of x.0.items, map spelled x.1.now)) result (finished as_they_are
         (expr_of first.value ∷ []) (commas (run_at method_readers limit) (length (map spelled tokens.now))
         (map spelled tokens.now))) }
-    ensures places { IfOk result (λ x. each_puts (map expr_places x.0.items) (kept x.1.now) ≡ expr_places first.value
-        (kept tokens.now)) }
+    ensures places { IfOk result (λ x. LeadsOn (expr_places first.value) (each_puts (map expr_places x.0.items)) (kept
+        tokens.now) (kept x.1.now)) }
     ensures shorter { IfOk result (λ x. length x.1.now ≤ length tokens.now) }
 {
     let mut items = Vec::new(alloc);
@@ -133,7 +133,7 @@ fn runs_until<'a>(
     requires room { suc (suc limit) < 2 ^ 32 }
     ensures gives { Gives (λ x. (map expr_of x.0.items, map spelled x.1.now)) result (runs_until method_readers limit
         end.now (map spelled tokens.now)) }
-    ensures places { IfOk result (λ x. each_puts (map expr_places x.0.items) (kept x.1.now) ≡ kept tokens.now) }
+    ensures places { IfOk result (λ x. Leads (each_puts (map expr_places x.0.items)) (kept tokens.now) (kept x.1.now)) }
     ensures shorter { IfOk result (λ x. length x.1.now ≤ length tokens.now) }
 {
     if begins_with(tokens, end) {
@@ -162,7 +162,8 @@ fn counted(
     requires room { suc (suc limit) < 2 ^ 32 }
     ensures gives { Gives (λ x. (head_of x.0, map spelled x.1.now)) result (counted_head_at method_readers limit
         (start_of start.value) (map spelled tokens.now)) }
-    ensures places { IfOk result (λ x. head_places x.0 (kept x.1.now) ≡ start_places start.value (kept tokens.now)) }
+    ensures places { IfOk result (λ x. LeadsOn (start_places start.value) (head_places x.0) (kept tokens.now) (kept
+        x.1.now)) }
     ensures shorter { IfOk result (λ x. length x.1.now ≤ length tokens.now) }
 {
     let rest = sign(tokens, ";")?;
@@ -173,67 +174,78 @@ fn counted(
     Ok((ForHead::Counted(start, condition, updates), rest))
 }
 
-/// The head of a `for` from behind its `:` on (JLS 14.14.2).
+/// The head of a `for` of this variable from behind its `:` on (JLS 14.14.2).
 #[tactic(auto, unfolding(crate::specs::HeadReading::each_head_at))]
 fn each(
     alloc: Global,
     limit: u32,
-    is_final: bool,
-    kind: Box<TypeTree>,
-    name: Ident,
+    variable: Box<EachTree>,
     tokens: &[Token],
 ) -> Result<(ForHead, &[Token]), ReadError>
     requires few { length tokens.now < 2 ^ 32 }
     requires room { suc (suc limit) < 2 ^ 32 }
-    ensures gives { Gives (λ x. (head_of x.0, map spelled x.1.now)) result (each_head_at method_readers limit is_final
-        (ty_of kind.value) name.text (map spelled tokens.now)) }
-    ensures places { IfOk result (λ x. head_places x.0 (kept x.1.now) ≡ ty_places kind.value ++ (name.place
-        ∷ kept tokens.now)) }
+    ensures gives { Gives (λ x. (head_of x.0, map spelled x.1.now)) result (each_head_at method_readers limit
+        (each_of variable.value) (map spelled tokens.now)) }
+    ensures places { IfOk result (λ x. LeadsOn (each_places variable.value) (head_places x.0) (kept tokens.now)
+        (kept x.1.now)) }
     ensures shorter { IfOk result (λ x. length x.1.now ≤ length tokens.now) }
 {
     let (all, rest) = read_expression(alloc, limit, 0, tokens)?;
     let rest = sign(rest, ")")?;
-    let name = Apart::new(alloc, name)?;
-    Ok((ForHead::Each(is_final, kind, name, all.tree), rest))
+    Ok((ForHead::Each(variable, all.tree), rest))
+}
+
+/// The variable of this name behind its modifiers and its type.
+fn each_variable(alloc: Global, front: TypedFront, word: &Token) -> Result<Box<EachTree>, ReadError>
+    ensures gives { Gives (λ x. each_of x.value) result (Some (typed_of front, word.now.text)) }
+    ensures places { IfOk result (λ x. (rest : Marks) → each_places x.value rest ≡ typed_places front
+        (Some word.now.place ∷ rest)) }
+{
+    let name = ident(alloc, word)?;
+    let variable = EachTree {
+        modifiers: front.modifiers,
+        kind: Box::into_inner(front.kind),
+        name,
+    };
+    Ok(Box::new(alloc, variable)?)
 }
 
 /// The head of a `for` from behind the type of its variables on.
 fn declared(
     alloc: Global,
     limit: u32,
-    is_final: bool,
-    kind: Box<TypeTree>,
+    front: TypedFront,
     tokens: &[Token],
 ) -> Result<(ForHead, &[Token]), ReadError>
     requires few { length tokens.now < 2 ^ 32 }
     requires room { suc (suc limit) < 2 ^ 32 }
     ensures gives { Gives (λ x. (head_of x.0, map spelled x.1.now)) result (declared_head_at method_readers limit
-        is_final (ty_of kind.value) (map spelled tokens.now)) }
-    ensures places { IfOk result (λ x. head_places x.0 (kept x.1.now) ≡ ty_places kind.value ++ kept tokens.now) }
+        (typed_of front) (map spelled tokens.now)) }
+    ensures places { IfOk result (λ x. LeadsOn (typed_places front) (head_places x.0) (kept tokens.now)
+        (kept x.1.now)) }
     ensures shorter { IfOk result (λ x. length x.1.now ≤ length tokens.now) }
 {
     if let Some((word, rest)) = name_and_colon(tokens) {
-        let name = ident(alloc, word)?;
-        return each(alloc, limit, is_final, kind, name, rest);
+        let variable = each_variable(alloc, front, word)?;
+        return each(alloc, limit, variable, rest);
     }
-    let (locals, rest) = variables(alloc, limit, is_final, kind, tokens)?;
+    let (locals, rest) = variables(alloc, limit, front, tokens)?;
     let start = boxed_start(alloc, StartTree::Local(Box::into_inner(locals)))?;
     counted(alloc, limit, start, rest)
 }
 
 /// The head of a `for` with a declaration in front.
 #[tactic(auto, unfolding(crate::specs::HeadReading::typed_head_at))]
-fn typed(alloc: Global, limit: u32, tokens: &[Token]) -> Result<(ForHead, &[Token]), ReadError>
+fn typed_head(alloc: Global, limit: u32, tokens: &[Token]) -> Result<(ForHead, &[Token]), ReadError>
     requires few { length tokens.now < 2 ^ 32 }
     requires room { suc (suc limit) < 2 ^ 32 }
     ensures gives { Gives (λ x. (head_of x.0, map spelled x.1.now)) result (typed_head_at method_readers limit
         (map spelled tokens.now)) }
-    ensures places { IfOk result (λ x. head_places x.0 (kept x.1.now) ≡ kept tokens.now) }
+    ensures places { IfOk result (λ x. Leads (head_places x.0) (kept tokens.now) (kept x.1.now)) }
     ensures shorter { IfOk result (λ x. length x.1.now ≤ length tokens.now) }
 {
-    let (is_final, rest) = final_at(tokens);
-    let (kind, rest) = boxed_type(alloc, limit, rest)?;
-    declared(alloc, limit, is_final, kind, rest)
+    let (front, rest) = typed(alloc, limit, tokens)?;
+    declared(alloc, limit, front, rest)
 }
 
 /// The head of a `for` with expressions in front, or nothing.
@@ -243,7 +255,7 @@ fn untyped(alloc: Global, limit: u32, tokens: &[Token]) -> Result<(ForHead, &[To
     requires room { suc (suc limit) < 2 ^ 32 }
     ensures gives { Gives (λ x. (head_of x.0, map spelled x.1.now)) result (run_head_at method_readers limit
         (map spelled tokens.now)) }
-    ensures places { IfOk result (λ x. head_places x.0 (kept x.1.now) ≡ kept tokens.now) }
+    ensures places { IfOk result (λ x. Leads (head_places x.0) (kept tokens.now) (kept x.1.now)) }
     ensures shorter { IfOk result (λ x. length x.1.now ≤ length tokens.now) }
 {
     let (runs, rest) = runs_until(alloc, limit, ";", tokens)?;
@@ -258,12 +270,12 @@ pub fn head(alloc: Global, limit: u32, tokens: &[Token]) -> Result<(ForHead, &[T
     requires room { suc (suc limit) < 2 ^ 32 }
     ensures gives { Gives (λ x. (head_of x.0, map spelled x.1.now)) result (head_at method_readers limit
         (map spelled tokens.now)) }
-    ensures places { IfOk result (λ x. head_places x.0 (kept x.1.now) ≡ kept tokens.now) }
+    ensures places { IfOk result (λ x. Leads (head_places x.0) (kept tokens.now) (kept x.1.now)) }
     ensures shorter { IfOk result (λ x. length x.1.now ≤ length tokens.now) }
 {
     let rest = sign(tokens, "(")?;
     if looks_local(rest) {
-        typed(alloc, limit, rest)
+        typed_head(alloc, limit, rest)
     } else {
         untyped(alloc, limit, rest)
     }

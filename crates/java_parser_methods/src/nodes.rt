@@ -1,11 +1,13 @@
 //! Statements with statements or expressions in them, made of what was read (JLS 14).
-ghost use Rattle.std.specs.Prelude.{◌≡◌, ◌≤◌, ◌∷◌, length, map, option_map, IfOk};
-ghost use Rattle.java_tree.specs.Trees.{If, IfElse, Block, Labelled, Local, Run, Empty, pack_stmts};
+ghost use Rattle.std.specs.Prelude.{◌≡◌, ◌≤◌, ◌∷◌, Some, length, map, option_map, IfOk};
+ghost use Rattle.java_tree.specs.Trees.{If, IfElse, Block, Labelled, Local, LocalClass, Run, Empty};
+ghost use Rattle.java_tree.specs.Trees.{pack_stmts};
 ghost use Rattle.java_tree.specs.Rows.{Do, While, Sync, Switch};
-ghost use Rattle.java_tree.specs.KeptPlaces.{Places, kept, maybe_puts, each_puts, expr_places, stmt_places};
+ghost use Rattle.java_tree.specs.KeptPlaces.{Marks, kept, maybe_puts, each_puts, expr_places, stmt_places};
 ghost use Rattle.java_tree.specs.KeptPlaces.{locals_places, group_places};
 ghost use Rattle.java_tree.specs.View.{expr_of, locals_of, stmt_of, group_of, pack_groups};
 ghost use Rattle.java_parser_expressions.specs.Closings.{as_read};
+ghost use Rattle.java_parser_methods.specs.ClassReading.{class_places};
 ghost use Rattle.java_parser_methods.specs.HeadReading.{for_of};
 ghost use Rattle.java_parser_methods.specs.RowReading.{as_made, labelled_with};
 ghost use Rattle.java_parser_methods.specs.HeadView.{head_of, head_places};
@@ -13,12 +15,13 @@ ghost use Rattle.java_parser_types.specs.Tokens.{spelled};
 ghost use Rattle.java_parser_types.specs.ReadAnswer.{Gives};
 
 use super::heads::ForHead;
+use super::local_classes::ClassTokens;
 use java_lexer::Token;
 use java_parser_parts::bodies::may_have_label;
 use java_parser_types::error::ReadError;
 use java_parser_types::look::ident;
 use java_tree::{Apart, Expression, GroupTree, LocalsTree, Statement};
-use racer_base::Place;
+use racer_base::{Items, Place};
 use std::alloc::Global;
 
 /// This statement in memory of its own, and the tokens behind it.
@@ -29,8 +32,8 @@ pub fn boxed(
 ) -> Result<(Box<Statement>, &[Token]), ReadError>
     ensures gives { Gives (λ x. (stmt_of x.0.value, map spelled x.1.now)) result (as_made (stmt_of statement)
         (map spelled tokens.now)) }
-    ensures places { IfOk result (λ x. stmt_places x.0.value (kept x.1.now) ≡ stmt_places statement
-        (kept tokens.now)) }
+    ensures places { IfOk result (λ x. (marks : Marks) → stmt_places x.0.value marks ≡ stmt_places statement marks) }
+    ensures behind { IfOk result (λ x. kept x.1.now ≡ kept tokens.now) }
     ensures shorter { IfOk result (λ x. length x.1.now ≤ length tokens.now) }
 {
     Ok((Box::new(alloc, statement)?, tokens))
@@ -40,8 +43,8 @@ pub fn boxed(
 pub fn empty(alloc: Global, tokens: &[Token]) -> Result<(Box<Statement>, &[Token]), ReadError>
     ensures gives { Gives (λ x. (stmt_of x.0.value, map spelled x.1.now)) result (as_read
         Empty (map spelled tokens.now)) }
-    ensures places { IfOk result (λ x. stmt_places x.0.value (kept x.1.now) ≡
-        kept tokens.now) }
+    ensures places { IfOk result (λ x. (marks : Marks) → stmt_places x.0.value marks ≡ marks) }
+    ensures behind { IfOk result (λ x. kept x.1.now ≡ kept tokens.now) }
     ensures shorter { IfOk result (λ x. length x.1.now ≤ length tokens.now) }
 {
     boxed(alloc, Statement::Empty, tokens)
@@ -55,8 +58,9 @@ pub fn block(
 ) -> Result<(Box<Statement>, &[Token]), ReadError>
     ensures gives { Gives (λ x. (stmt_of x.0.value, map spelled x.1.now)) result (as_read
         (Block (pack_stmts (map stmt_of statements.items))) (map spelled tokens.now)) }
-    ensures places { IfOk result (λ x. stmt_places x.0.value (kept x.1.now) ≡
-        each_puts (map stmt_places statements.items) (kept tokens.now)) }
+    ensures places { IfOk result (λ x. (marks : Marks) → stmt_places x.0.value marks ≡ each_puts (map stmt_places
+        statements.items) marks) }
+    ensures behind { IfOk result (λ x. kept x.1.now ≡ kept tokens.now) }
     ensures shorter { IfOk result (λ x. length x.1.now ≤ length tokens.now) }
 {
     boxed(alloc, Statement::Block(statements), tokens)
@@ -70,11 +74,29 @@ pub fn local(
 ) -> Result<(Box<Statement>, &[Token]), ReadError>
     ensures gives { Gives (λ x. (stmt_of x.0.value, map spelled x.1.now)) result (as_read
         (Local (locals_of locals.value)) (map spelled tokens.now)) }
-    ensures places { IfOk result (λ x. stmt_places x.0.value (kept x.1.now) ≡
-        locals_places locals.value (kept tokens.now)) }
+    ensures places { IfOk result (λ x. (marks : Marks) → stmt_places x.0.value marks ≡ locals_places locals.value
+        marks) }
+    ensures behind { IfOk result (λ x. kept x.1.now ≡ kept tokens.now) }
     ensures shorter { IfOk result (λ x. length x.1.now ≤ length tokens.now) }
 {
     boxed(alloc, Statement::Local(Apart::from(locals)), tokens)
+}
+
+/// JLS 14.3.
+pub fn class_declared(
+    alloc: Global,
+    class: ClassTokens,
+    tokens: &[Token],
+) -> Result<(Box<Statement>, &[Token]), ReadError>
+    ensures gives { Gives (λ x. (stmt_of x.0.value, map spelled x.1.now)) result (as_read
+        (LocalClass class.name.text class.items.items) (map spelled tokens.now)) }
+    ensures places { IfOk result (λ x. (marks : Marks) → stmt_places x.0.value marks ≡ class_places class marks) }
+    ensures behind { IfOk result (λ x. kept x.1.now ≡ kept tokens.now) }
+    ensures shorter { IfOk result (λ x. length x.1.now ≤ length tokens.now) }
+{
+    let name = Apart::new(alloc, class.name)?;
+    let items = Apart::new(alloc, Items::from(class.items))?;
+    boxed(alloc, Statement::LocalClass(name, items), tokens)
 }
 
 /// JLS 14.8.
@@ -85,8 +107,8 @@ pub fn ran(
 ) -> Result<(Box<Statement>, &[Token]), ReadError>
     ensures gives { Gives (λ x. (stmt_of x.0.value, map spelled x.1.now)) result (as_read
         (Run (expr_of tree.value)) (map spelled tokens.now)) }
-    ensures places { IfOk result (λ x. stmt_places x.0.value (kept x.1.now) ≡
-        expr_places tree.value (kept tokens.now)) }
+    ensures places { IfOk result (λ x. (marks : Marks) → stmt_places x.0.value marks ≡ expr_places tree.value marks) }
+    ensures behind { IfOk result (λ x. kept x.1.now ≡ kept tokens.now) }
     ensures shorter { IfOk result (λ x. length x.1.now ≤ length tokens.now) }
 {
     boxed(alloc, Statement::Expr(Box::into_inner(tree)), tokens)
@@ -95,7 +117,7 @@ pub fn ran(
 /// An expression that may be left out, as a part of its statement.
 pub fn maybe_tree(tree: Option<Box<Expression>>) -> Option<Apart<Expression>>
     ensures gives { option_map expr_of result ≡ option_map (λ e. expr_of e.value) tree }
-    ensures places { (rest : Places) → maybe_puts (option_map expr_places result) rest ≡ maybe_puts
+    ensures places { (rest : Marks) → maybe_puts (option_map expr_places result) rest ≡ maybe_puts
         (option_map (λ e. expr_places e.value) tree) rest }
 {
     match tree {
@@ -113,8 +135,9 @@ pub fn without_else(
 ) -> Result<(Box<Statement>, &[Token]), ReadError>
     ensures gives { Gives (λ x. (stmt_of x.0.value, map spelled x.1.now)) result (as_read
         (If (expr_of condition.value) (stmt_of then.value)) (map spelled tokens.now)) }
-    ensures places { IfOk result (λ x. stmt_places x.0.value (kept x.1.now) ≡
-        expr_places condition.value (stmt_places then.value (kept tokens.now))) }
+    ensures places { IfOk result (λ x. (marks : Marks) → stmt_places x.0.value marks ≡ expr_places condition.value
+        (stmt_places then.value marks)) }
+    ensures behind { IfOk result (λ x. kept x.1.now ≡ kept tokens.now) }
     ensures shorter { IfOk result (λ x. length x.1.now ≤ length tokens.now) }
 {
     boxed(
@@ -134,8 +157,9 @@ pub fn with_else(
 ) -> Result<(Box<Statement>, &[Token]), ReadError>
     ensures gives { Gives (λ x. (stmt_of x.0.value, map spelled x.1.now)) result (as_read
         (IfElse (expr_of condition.value) (stmt_of then.value) (stmt_of other.value)) (map spelled tokens.now)) }
-    ensures places { IfOk result (λ x. stmt_places x.0.value (kept x.1.now) ≡
-        expr_places condition.value (stmt_places then.value (stmt_places other.value (kept tokens.now)))) }
+    ensures places { IfOk result (λ x. (marks : Marks) → stmt_places x.0.value marks ≡ expr_places condition.value
+        (stmt_places then.value (stmt_places other.value marks))) }
+    ensures behind { IfOk result (λ x. kept x.1.now ≡ kept tokens.now) }
     ensures shorter { IfOk result (λ x. length x.1.now ≤ length tokens.now) }
 {
     boxed(
@@ -154,8 +178,9 @@ pub fn repeated(
 ) -> Result<(Box<Statement>, &[Token]), ReadError>
     ensures gives { Gives (λ x. (stmt_of x.0.value, map spelled x.1.now)) result (as_read
         (While (expr_of condition.value) (stmt_of body.value)) (map spelled tokens.now)) }
-    ensures places { IfOk result (λ x. stmt_places x.0.value (kept x.1.now) ≡
-        expr_places condition.value (stmt_places body.value (kept tokens.now))) }
+    ensures places { IfOk result (λ x. (marks : Marks) → stmt_places x.0.value marks ≡ expr_places condition.value
+        (stmt_places body.value marks)) }
+    ensures behind { IfOk result (λ x. kept x.1.now ≡ kept tokens.now) }
     ensures shorter { IfOk result (λ x. length x.1.now ≤ length tokens.now) }
 {
     boxed(
@@ -175,8 +200,9 @@ pub fn locked(
 ) -> Result<(Box<Statement>, &[Token]), ReadError>
     ensures gives { Gives (λ x. (stmt_of x.0.value, map spelled x.1.now)) result (as_read
         (Sync (expr_of lock.value) (pack_stmts (map stmt_of statements.items))) (map spelled tokens.now)) }
-    ensures places { IfOk result (λ x. stmt_places x.0.value (kept x.1.now) ≡
-        place ∷ expr_places lock.value (each_puts (map stmt_places statements.items) (kept tokens.now))) }
+    ensures places { IfOk result (λ x. (marks : Marks) → stmt_places x.0.value marks ≡ Some place ∷ expr_places
+        lock.value (each_puts (map stmt_places statements.items) marks)) }
+    ensures behind { IfOk result (λ x. kept x.1.now ≡ kept tokens.now) }
     ensures shorter { IfOk result (λ x. length x.1.now ≤ length tokens.now) }
 {
     boxed(
@@ -195,8 +221,9 @@ pub fn switched(
 ) -> Result<(Box<Statement>, &[Token]), ReadError>
     ensures gives { Gives (λ x. (stmt_of x.0.value, map spelled x.1.now)) result (as_read
         (Switch (expr_of value.value) (pack_groups (map group_of groups.items))) (map spelled tokens.now)) }
-    ensures places { IfOk result (λ x. stmt_places x.0.value (kept x.1.now) ≡
-        expr_places value.value (each_puts (map group_places groups.items) (kept tokens.now))) }
+    ensures places { IfOk result (λ x. (marks : Marks) → stmt_places x.0.value marks ≡ expr_places value.value
+        (each_puts (map group_places groups.items) marks)) }
+    ensures behind { IfOk result (λ x. kept x.1.now ≡ kept tokens.now) }
     ensures shorter { IfOk result (λ x. length x.1.now ≤ length tokens.now) }
 {
     boxed(alloc, Statement::Switch(Apart::from(value), groups), tokens)
@@ -205,15 +232,14 @@ pub fn switched(
 /// The `for` of this head and body.
 fn headed_statement(head: ForHead, body: Box<Statement>) -> Statement
     ensures gives { stmt_of result ≡ for_of (head_of head) (stmt_of body.value) }
-    ensures places { (rest : Places) → stmt_places result rest ≡ head_places head (stmt_places body.value rest) }
+    ensures places { (rest : Marks) → stmt_places result rest ≡ head_places head (stmt_places body.value rest) }
 {
     match head {
         ForHead::Counted(start, condition, updates) => {
             Statement::For(Apart::from(start), maybe_tree(condition), updates, body)
         }
-        ForHead::Each(is_final, kind, name, all) => {
-            let (kind, all) = (Apart::from(kind), Apart::from(all));
-            Statement::ForEach(is_final, kind, name, all, body)
+        ForHead::Each(variable, all) => {
+            Statement::ForEach(Apart::from(variable), Apart::from(all), body)
         }
     }
 }
@@ -227,8 +253,9 @@ pub fn headed(
 ) -> Result<(Box<Statement>, &[Token]), ReadError>
     ensures gives { Gives (λ x. (stmt_of x.0.value, map spelled x.1.now)) result (as_read
         (for_of (head_of head) (stmt_of body.value)) (map spelled tokens.now)) }
-    ensures places { IfOk result (λ x. stmt_places x.0.value (kept x.1.now) ≡
-        head_places head (stmt_places body.value (kept tokens.now))) }
+    ensures places { IfOk result (λ x. (marks : Marks) → stmt_places x.0.value marks ≡ head_places head (stmt_places
+        body.value marks)) }
+    ensures behind { IfOk result (λ x. kept x.1.now ≡ kept tokens.now) }
     ensures shorter { IfOk result (λ x. length x.1.now ≤ length tokens.now) }
 {
     boxed(alloc, headed_statement(head, body), tokens)
@@ -243,8 +270,9 @@ pub fn repeated_after(
 ) -> Result<(Box<Statement>, &[Token]), ReadError>
     ensures gives { Gives (λ x. (stmt_of x.0.value, map spelled x.1.now)) result (as_read
         (Do (stmt_of body.value) (expr_of condition.value)) (map spelled tokens.now)) }
-    ensures places { IfOk result (λ x. stmt_places x.0.value (kept x.1.now) ≡
-        stmt_places body.value (expr_places condition.value (kept tokens.now))) }
+    ensures places { IfOk result (λ x. (marks : Marks) → stmt_places x.0.value marks ≡ stmt_places body.value
+        (expr_places condition.value marks)) }
+    ensures behind { IfOk result (λ x. kept x.1.now ≡ kept tokens.now) }
     ensures shorter { IfOk result (λ x. length x.1.now ≤ length tokens.now) }
 {
     boxed(alloc, Statement::Do(body, Apart::from(condition)), tokens)
@@ -259,8 +287,9 @@ fn naming<'a>(
 ) -> Result<(Box<Statement>, &'a [Token]), ReadError>
     ensures gives { Gives (λ x. (stmt_of x.0.value, map spelled x.1.now)) result (as_read
         (Labelled token.now.text (stmt_of body.value)) (map spelled tokens.now)) }
-    ensures places { IfOk result (λ x. stmt_places x.0.value (kept x.1.now) ≡
-        token.now.place ∷ stmt_places body.value (kept tokens.now)) }
+    ensures places { IfOk result (λ x. (marks : Marks) → stmt_places x.0.value marks ≡ Some token.now.place ∷
+        stmt_places body.value marks) }
+    ensures behind { IfOk result (λ x. kept x.1.now ≡ kept tokens.now) }
     ensures shorter { IfOk result (λ x. length x.1.now ≤ length tokens.now) }
 {
     let name = Apart::new(alloc, ident(alloc, token)?)?;
@@ -276,8 +305,9 @@ pub fn labelled<'a>(
 ) -> Result<(Box<Statement>, &'a [Token]), ReadError>
     ensures gives { Gives (λ x. (stmt_of x.0.value, map spelled x.1.now)) result (labelled_with token.now.text
         (stmt_of body.value) (map spelled tokens.now)) }
-    ensures places { IfOk result (λ x. stmt_places x.0.value (kept x.1.now) ≡
-        token.now.place ∷ stmt_places body.value (kept tokens.now)) }
+    ensures places { IfOk result (λ x. (marks : Marks) → stmt_places x.0.value marks ≡ Some token.now.place ∷
+        stmt_places body.value marks) }
+    ensures behind { IfOk result (λ x. kept x.1.now ≡ kept tokens.now) }
     ensures shorter { IfOk result (λ x. length x.1.now ≤ length tokens.now) }
 {
     if !may_have_label(&body) {

@@ -1,13 +1,14 @@
 //! Statements that begin with a keyword of their own and hold no statement (JLS 14.10, 14.15 to 14.18).
 ghost use Rattle.std.specs.Prelude.{◌≡◌, ◌<◌, ◌≤◌, ◌^◌, ◌∷◌, suc, length, map, option_map, IfOk, codes};
 ghost use Rattle.java_lexer.specs.declared.token.TokenKind.TheVariants as kind;
-ghost use Rattle.java_tree.specs.KeptPlaces.{kept, maybe_puts, name_places, expr_places, stmt_places};
+ghost use Rattle.java_tree.specs.KeptPlaces.{Marks, kept, maybe_puts, name_places, expr_places, stmt_places};
 ghost use Rattle.java_tree.specs.Rows.{Return, Throw, Break, Continue, Assert};
 ghost use Rattle.java_tree.specs.View.{name_of, expr_of, stmt_of};
 ghost use Rattle.java_parser_grammar.specs.StatementReading.{maybe_name_at, maybe_behind_at};
 ghost use Rattle.java_parser_grammar.specs.StatementReading.{row_at, stmt_at, block_at};
 ghost use Rattle.java_parser_grammar.specs.JavaReaders.{method_readers};
 ghost use Rattle.java_parser_expressions.specs.Closings.{as_read};
+ghost use Rattle.java_parser_types.specs.LedPlaces.{Leads};
 ghost use Rattle.java_parser_types.specs.Tokens.{spelled};
 ghost use Rattle.java_parser_types.specs.ReadAnswer.{Gives};
 
@@ -30,8 +31,9 @@ fn returning(
 ) -> Result<(Box<Statement>, &[Token]), ReadError>
     ensures gives { Gives (λ x. (stmt_of x.0.value, map spelled x.1.now)) result (as_read
         (Return (option_map (λ e. expr_of e.value) value)) (map spelled tokens.now)) }
-    ensures places { IfOk result (λ x. stmt_places x.0.value (kept x.1.now) ≡
-        maybe_puts (option_map (λ e. expr_places e.value) value) (kept tokens.now)) }
+    ensures places { IfOk result (λ x. (marks : Marks) → stmt_places x.0.value marks ≡ maybe_puts (option_map (λ e.
+        expr_places e.value) value) marks) }
+    ensures behind { IfOk result (λ x. kept x.1.now ≡ kept tokens.now) }
     ensures shorter { IfOk result (λ x. length x.1.now ≤ length tokens.now) }
 {
     boxed(alloc, Statement::Return(maybe_tree(value)), tokens)
@@ -49,7 +51,7 @@ pub fn returned(
     ensures gives { Gives (λ x. (stmt_of x.0.value, map spelled x.1.now)) result (row_at method_readers
         (stmt_at method_readers limit) (block_at method_readers limit) limit (codes "return")
         (map spelled tokens.now)) }
-    ensures places { IfOk result (λ x. stmt_places x.0.value (kept x.1.now) ≡ kept tokens.now) }
+    ensures places { IfOk result (λ x. Leads (stmt_places x.0.value) (kept tokens.now) (kept x.1.now)) }
     ensures shorter { IfOk result (λ x. length x.1.now ≤ length tokens.now) }
 {
     let (value, rest) = expression_until(alloc, limit, ";", tokens)?;
@@ -66,8 +68,9 @@ fn throwing(
 ) -> Result<(Box<Statement>, &[Token]), ReadError>
     ensures gives { Gives (λ x. (stmt_of x.0.value, map spelled x.1.now)) result (as_read
         (Throw (expr_of value.value)) (map spelled tokens.now)) }
-    ensures places { IfOk result (λ x. stmt_places x.0.value (kept x.1.now) ≡
-        place ∷ expr_places value.value (kept tokens.now)) }
+    ensures places { IfOk result (λ x. (marks : Marks) → stmt_places x.0.value marks ≡ Some place ∷ expr_places
+        value.value marks) }
+    ensures behind { IfOk result (λ x. kept x.1.now ≡ kept tokens.now) }
     ensures shorter { IfOk result (λ x. length x.1.now ≤ length tokens.now) }
 {
     boxed(alloc, Statement::Throw(place, Apart::from(value)), tokens)
@@ -86,7 +89,7 @@ pub fn thrown(
     ensures gives { Gives (λ x. (stmt_of x.0.value, map spelled x.1.now)) result (row_at method_readers
         (stmt_at method_readers limit) (block_at method_readers limit) limit (codes "throw")
         (map spelled tokens.now)) }
-    ensures places { IfOk result (λ x. stmt_places x.0.value (kept x.1.now) ≡ place ∷ kept tokens.now) }
+    ensures places { IfOk result (λ x. Leads (stmt_places x.0.value) (place ∷ kept tokens.now) (kept x.1.now)) }
     ensures shorter { IfOk result (λ x. length x.1.now ≤ length tokens.now) }
 {
     let (value, rest) = read_expression(alloc, limit, 0, tokens)?;
@@ -101,7 +104,8 @@ fn maybe_name(
 ) -> Result<(Option<Apart<Ident>>, &[Token]), ReadError>
     ensures gives { Gives (λ x. (option_map name_of x.0, map spelled x.1.now)) result (maybe_name_at method_readers
         (map spelled tokens.now)) }
-    ensures places { IfOk result (λ x. maybe_puts (option_map name_places x.0) (kept x.1.now) ≡ kept tokens.now) }
+    ensures places { IfOk result (λ x. Leads (maybe_puts (option_map name_places x.0)) (kept tokens.now) (kept
+        x.1.now)) }
     ensures shorter { IfOk result (λ x. length x.1.now ≤ length tokens.now) }
 {
     let Some((token, rest)) = after_name(tokens) else {
@@ -121,7 +125,7 @@ pub fn broken(
     ensures gives { Gives (λ x. (stmt_of x.0.value, map spelled x.1.now)) result (row_at method_readers
         (stmt_at method_readers limit) (block_at method_readers limit) limit (codes "break")
         (map spelled tokens.now)) }
-    ensures places { IfOk result (λ x. stmt_places x.0.value (kept x.1.now) ≡ kept tokens.now) }
+    ensures places { IfOk result (λ x. Leads (stmt_places x.0.value) (kept tokens.now) (kept x.1.now)) }
     ensures shorter { IfOk result (λ x. length x.1.now ≤ length tokens.now) }
 {
     let (target, rest) = maybe_name(alloc, tokens)?;
@@ -139,7 +143,7 @@ pub fn continued(
     ensures gives { Gives (λ x. (stmt_of x.0.value, map spelled x.1.now)) result (row_at method_readers
         (stmt_at method_readers limit) (block_at method_readers limit) limit (codes "continue")
         (map spelled tokens.now)) }
-    ensures places { IfOk result (λ x. stmt_places x.0.value (kept x.1.now) ≡ kept tokens.now) }
+    ensures places { IfOk result (λ x. Leads (stmt_places x.0.value) (kept tokens.now) (kept x.1.now)) }
     ensures shorter { IfOk result (λ x. length x.1.now ≤ length tokens.now) }
 {
     let (target, rest) = maybe_name(alloc, tokens)?;
@@ -158,8 +162,8 @@ fn maybe_behind<'a>(
     requires room { suc (suc limit) < 2 ^ 32 }
     ensures gives { Gives (λ x. (option_map (λ e. expr_of e.value) x.0, map spelled x.1.now)) result
         (maybe_behind_at method_readers limit text.now (map spelled tokens.now)) }
-    ensures places { IfOk result (λ x. maybe_puts (option_map (λ e. expr_places e.value) x.0) (kept x.1.now)
-        ≡ kept tokens.now) }
+    ensures places { IfOk result (λ x. Leads (maybe_puts (option_map (λ e. expr_places e.value) x.0)) (kept tokens.now)
+        (kept x.1.now)) }
     ensures shorter { IfOk result (λ x. length x.1.now ≤ length tokens.now) }
 {
     let Some(after) = after_sign(tokens, text) else {
@@ -178,8 +182,9 @@ fn asserting(
 ) -> Result<(Box<Statement>, &[Token]), ReadError>
     ensures gives { Gives (λ x. (stmt_of x.0.value, map spelled x.1.now)) result (as_read
         (Assert (expr_of condition.value) (option_map (λ e. expr_of e.value) detail)) (map spelled tokens.now)) }
-    ensures places { IfOk result (λ x. stmt_places x.0.value (kept x.1.now) ≡ expr_places condition.value
-        (maybe_puts (option_map (λ e. expr_places e.value) detail) (kept tokens.now))) }
+    ensures places { IfOk result (λ x. (marks : Marks) → stmt_places x.0.value marks ≡ expr_places condition.value
+        (maybe_puts (option_map (λ e. expr_places e.value) detail) marks)) }
+    ensures behind { IfOk result (λ x. kept x.1.now ≡ kept tokens.now) }
     ensures shorter { IfOk result (λ x. length x.1.now ≤ length tokens.now) }
 {
     boxed(
@@ -201,7 +206,7 @@ pub fn asserted(
     ensures gives { Gives (λ x. (stmt_of x.0.value, map spelled x.1.now)) result (row_at method_readers
         (stmt_at method_readers limit) (block_at method_readers limit) limit (codes "assert")
         (map spelled tokens.now)) }
-    ensures places { IfOk result (λ x. stmt_places x.0.value (kept x.1.now) ≡ kept tokens.now) }
+    ensures places { IfOk result (λ x. Leads (stmt_places x.0.value) (kept tokens.now) (kept x.1.now)) }
     ensures shorter { IfOk result (λ x. length x.1.now ≤ length tokens.now) }
 {
     let (condition, rest) = read_expression(alloc, limit, 0, tokens)?;

@@ -12,12 +12,13 @@ ghost use Rattle.java_parser_methods.specs.RowReading.{labelled_at};
 ghost use Rattle.java_parser_grammar.specs.StatementReading.{stmt_at, block_at};
 ghost use Rattle.java_parser_methods.specs.HeadReading.{else_at, headed_at};
 ghost use Rattle.java_parser_grammar.specs.JavaReaders.{method_readers};
+ghost use Rattle.java_parser_types.specs.LedPlaces.{Leads, LeadsOn};
 ghost use Rattle.java_parser_types.specs.Tokens.{spelled};
 ghost use Rattle.java_parser_types.specs.ReadAnswer.{Gives};
 
 use super::ends::do_end;
 use super::heads::head;
-use super::lines::simple;
+use super::lines::{class_statement, simple};
 use super::nodes::{block, empty, headed, labelled, locked, repeated, with_else, without_else};
 use super::simple_rows::{asserted, broken, continued, returned, thrown};
 use super::switches::switch_statement;
@@ -45,7 +46,7 @@ pub fn read_statement(
     requires room { suc (suc limit) < 2 ^ 32 }
     ensures gives { Gives (λ x. (stmt_of x.0.value, map spelled x.1.now)) result (stmt_at method_readers limit
         (map spelled tokens.now)) }
-    ensures places { IfOk result (λ x. stmt_places x.0.value (kept x.1.now) ≡ kept tokens.now) }
+    ensures places { IfOk result (λ x. Leads (stmt_places x.0.value) (kept tokens.now) (kept x.1.now)) }
     ensures shorter { IfOk result (λ x. length x.1.now ≤ length tokens.now) }
 {
     if limit == 0 {
@@ -66,7 +67,7 @@ fn by_lead(
     ensures gives { Gives (λ x. (stmt_of x.0.value, map spelled x.1.now)) result (by_lead method_readers
         (stmt_at method_readers limit) (block_at method_readers limit) limit (statement_lead (map spelled tokens.now))
         (map spelled tokens.now)) }
-    ensures places { IfOk result (λ x. stmt_places x.0.value (kept x.1.now) ≡ kept tokens.now) }
+    ensures places { IfOk result (λ x. Leads (stmt_places x.0.value) (kept tokens.now) (kept x.1.now)) }
     ensures shorter { IfOk result (λ x. length x.1.now ≤ length tokens.now) }
 {
     match statement_lead(tokens) {
@@ -79,6 +80,7 @@ fn by_lead(
         StatementLead::ForWord(rest) => for_statement(alloc, limit, rest),
         StatementLead::Row(word, place, rest) => row(alloc, limit, word, place, rest),
         StatementLead::Label(name, rest) => label_statement(alloc, limit, name, rest),
+        StatementLead::Class(rest) => class_statement(alloc, rest),
         StatementLead::Other => simple(alloc, limit, tokens),
     }
 }
@@ -94,7 +96,7 @@ fn body(
     requires room { suc (suc limit) < 2 ^ 32 }
     ensures gives { Gives (λ x. (stmt_of x.0.value, map spelled x.1.now)) result (body_at method_readers
         (stmt_at method_readers limit) (map spelled tokens.now)) }
-    ensures places { IfOk result (λ x. stmt_places x.0.value (kept x.1.now) ≡ kept tokens.now) }
+    ensures places { IfOk result (λ x. Leads (stmt_places x.0.value) (kept tokens.now) (kept x.1.now)) }
     ensures shorter { IfOk result (λ x. length x.1.now ≤ length tokens.now) }
 {
     let (body, rest) = read_statement(alloc, limit, tokens)?;
@@ -115,7 +117,7 @@ fn braces(
     requires room { suc (suc limit) < 2 ^ 32 }
     ensures gives { Gives (λ x. (pack_stmts (map stmt_of x.0.items), map spelled x.1.now)) result
         (braces_at method_readers (stmt_at method_readers limit) (map spelled tokens.now)) }
-    ensures places { IfOk result (λ x. each_puts (map stmt_places x.0.items) (kept x.1.now) ≡ kept tokens.now) }
+    ensures places { IfOk result (λ x. Leads (each_puts (map stmt_places x.0.items)) (kept tokens.now) (kept x.1.now)) }
     ensures shorter { IfOk result (λ x. length x.1.now ≤ length tokens.now) }
 {
     let mut items = Vec::new(alloc);
@@ -143,7 +145,7 @@ pub fn read_block(
     requires room { suc (suc limit) < 2 ^ 32 }
     ensures gives { Gives (λ x. (pack_stmts (map stmt_of x.0.items), map spelled x.1.now)) result
         (block_at method_readers limit (map spelled tokens.now)) }
-    ensures places { IfOk result (λ x. each_puts (map stmt_places x.0.items) (kept x.1.now) ≡ kept tokens.now) }
+    ensures places { IfOk result (λ x. Leads (each_puts (map stmt_places x.0.items)) (kept tokens.now) (kept x.1.now)) }
     ensures shorter { IfOk result (λ x. length x.1.now ≤ length tokens.now) }
 {
     if limit == 0 {
@@ -165,7 +167,7 @@ fn if_statement(
     requires room { suc (suc limit) < 2 ^ 32 }
     ensures gives { Gives (λ x. (stmt_of x.0.value, map spelled x.1.now)) result (if_at method_readers
         (stmt_at method_readers limit) limit (map spelled tokens.now)) }
-    ensures places { IfOk result (λ x. stmt_places x.0.value (kept x.1.now) ≡ kept tokens.now) }
+    ensures places { IfOk result (λ x. Leads (stmt_places x.0.value) (kept tokens.now) (kept x.1.now)) }
     ensures shorter { IfOk result (λ x. length x.1.now ≤ length tokens.now) }
 {
     let (condition, rest) = condition(alloc, limit, tokens)?;
@@ -187,9 +189,8 @@ fn otherwise(
     requires room { suc (suc limit) < 2 ^ 32 }
     ensures gives { Gives (λ x. (stmt_of x.0.value, map spelled x.1.now)) result (else_at method_readers
         (stmt_at method_readers limit) (expr_of condition.value) (stmt_of then.value) (map spelled tokens.now)) }
-    ensures places { IfOk result (λ x. stmt_places x.0.value (kept x.1.now) ≡ expr_places condition.value
-        (stmt_places then.value
-        (kept tokens.now))) }
+    ensures places { IfOk result (λ x. LeadsOn (λ rest. expr_places condition.value (stmt_places then.value rest))
+        (stmt_places x.0.value) (kept tokens.now) (kept x.1.now)) }
     ensures shorter { IfOk result (λ x. length x.1.now ≤ length tokens.now) }
 {
     let Some(after) = behind_else(tokens) else {
@@ -212,7 +213,7 @@ fn while_statement(
     ensures gives { Gives (λ x. (stmt_of x.0.value, map spelled x.1.now)) result (row_at method_readers
         (stmt_at method_readers limit) (block_at method_readers limit) limit (codes "while")
         (map spelled tokens.now)) }
-    ensures places { IfOk result (λ x. stmt_places x.0.value (kept x.1.now) ≡ kept tokens.now) }
+    ensures places { IfOk result (λ x. Leads (stmt_places x.0.value) (kept tokens.now) (kept x.1.now)) }
     ensures shorter { IfOk result (λ x. length x.1.now ≤ length tokens.now) }
 {
     let (condition, rest) = condition(alloc, limit, tokens)?;
@@ -234,8 +235,8 @@ fn row(
     ensures gives { Gives (λ x. (stmt_of x.0.value, map spelled x.1.now)) result (row_at method_readers
         (stmt_at method_readers limit) (block_at method_readers limit) limit (row_text word)
         (map spelled tokens.now)) }
-    ensures places { IfOk result (λ x. stmt_places x.0.value (kept x.1.now) ≡ word_onto word place
-        (kept tokens.now)) }
+    ensures places { IfOk result (λ x. Leads (stmt_places x.0.value) (word_onto word place (kept tokens.now))
+        (kept x.1.now)) }
     ensures shorter { IfOk result (λ x. length x.1.now ≤ length tokens.now) }
 {
     match word {
@@ -264,7 +265,7 @@ fn do_statement(
     ensures gives { Gives (λ x. (stmt_of x.0.value, map spelled x.1.now)) result (row_at method_readers
         (stmt_at method_readers limit) (block_at method_readers limit) limit (codes "do")
         (map spelled tokens.now)) }
-    ensures places { IfOk result (λ x. stmt_places x.0.value (kept x.1.now) ≡ kept tokens.now) }
+    ensures places { IfOk result (λ x. Leads (stmt_places x.0.value) (kept tokens.now) (kept x.1.now)) }
     ensures shorter { IfOk result (λ x. length x.1.now ≤ length tokens.now) }
 {
     let (body, rest) = body(alloc, limit, tokens)?;
@@ -282,7 +283,7 @@ fn for_statement(
     requires room { suc (suc limit) < 2 ^ 32 }
     ensures gives { Gives (λ x. (stmt_of x.0.value, map spelled x.1.now)) result (headed_at method_readers
         (stmt_at method_readers limit) limit (map spelled tokens.now)) }
-    ensures places { IfOk result (λ x. stmt_places x.0.value (kept x.1.now) ≡ kept tokens.now) }
+    ensures places { IfOk result (λ x. Leads (stmt_places x.0.value) (kept tokens.now) (kept x.1.now)) }
     ensures shorter { IfOk result (λ x. length x.1.now ≤ length tokens.now) }
 {
     let (head, rest) = head(alloc, limit, tokens)?;
@@ -304,7 +305,7 @@ fn synchronized(
     ensures gives { Gives (λ x. (stmt_of x.0.value, map spelled x.1.now)) result (row_at method_readers
         (stmt_at method_readers limit) (block_at method_readers limit) limit (codes "synchronized")
         (map spelled tokens.now)) }
-    ensures places { IfOk result (λ x. stmt_places x.0.value (kept x.1.now) ≡ place ∷ kept tokens.now) }
+    ensures places { IfOk result (λ x. Leads (stmt_places x.0.value) (place ∷ kept tokens.now) (kept x.1.now)) }
     ensures shorter { IfOk result (λ x. length x.1.now ≤ length tokens.now) }
 {
     let (lock, rest) = condition(alloc, limit, tokens)?;
@@ -324,7 +325,8 @@ fn label_statement<'a>(
     requires room { suc (suc limit) < 2 ^ 32 }
     ensures gives { Gives (λ x. (stmt_of x.0.value, map spelled x.1.now)) result (labelled_at method_readers
         (stmt_at method_readers limit) name.now.text (map spelled tokens.now)) }
-    ensures places { IfOk result (λ x. stmt_places x.0.value (kept x.1.now) ≡ name.now.place ∷ kept tokens.now) }
+    ensures places { IfOk result (λ x. Leads (stmt_places x.0.value) (name.now.place ∷ kept tokens.now)
+        (kept x.1.now)) }
     ensures shorter { IfOk result (λ x. length x.1.now ≤ length tokens.now) }
 {
     let (inside, rest) = read_statement(alloc, limit, tokens)?;

@@ -6,6 +6,7 @@ ghost use Rattle.java_tree.specs.View.{group_of, stmt_of, pack_groups};
 ghost use Rattle.java_parser_grammar.specs.StatementReading.{group_stmts_at, groups_at, row_at, stmt_at, block_at};
 ghost use Rattle.java_parser_grammar.specs.JavaReaders.{method_readers};
 ghost use Rattle.java_parser_methods.specs.RowReading.{group_at};
+ghost use Rattle.java_parser_types.specs.LedPlaces.{Leads};
 ghost use Rattle.java_parser_types.specs.Tokens.{spelled};
 ghost use Rattle.java_parser_types.specs.ReadAnswer.{Gives};
 
@@ -32,7 +33,7 @@ fn group_statements(
     requires room { suc (suc limit) < 2 ^ 32 }
     ensures gives { Gives (λ x. (map stmt_of x.0.items, map spelled x.1.now)) result (group_stmts_at method_readers
         (stmt_at method_readers limit) (suc (length (map spelled tokens.now))) (map spelled tokens.now)) }
-    ensures places { IfOk result (λ x. each_puts (map stmt_places x.0.items) (kept x.1.now) ≡ kept tokens.now) }
+    ensures places { IfOk result (λ x. Leads (each_puts (map stmt_places x.0.items)) (kept tokens.now) (kept x.1.now)) }
     ensures shorter { IfOk result (λ x. length x.1.now ≤ length tokens.now) }
 {
     let mut items = Vec::new(alloc);
@@ -58,7 +59,7 @@ fn group(alloc: Global, limit: u32, tokens: &[Token]) -> Result<(GroupTree, &[To
     requires room { suc (suc limit) < 2 ^ 32 }
     ensures gives { Gives (λ x. (group_of x.0, map spelled x.1.now)) result (group_at method_readers
         (stmt_at method_readers limit) limit (map spelled tokens.now)) }
-    ensures places { IfOk result (λ x. group_places x.0 (kept x.1.now) ≡ kept tokens.now) }
+    ensures places { IfOk result (λ x. Leads (group_places x.0) (kept tokens.now) (kept x.1.now)) }
     ensures shorter { IfOk result (λ x. length x.1.now ≤ length tokens.now) }
 {
     let (labels, rest) = labels(alloc, limit, tokens)?;
@@ -82,7 +83,8 @@ fn groups(
     ensures gives { Gives (λ x. (pack_groups (map group_of x.0.items), map spelled x.1.now)) result
         (groups_at method_readers (stmt_at method_readers limit) limit (length (map spelled tokens.now))
         (map spelled tokens.now)) }
-    ensures places { IfOk result (λ x. each_puts (map group_places x.0.items) (kept x.1.now) ≡ kept tokens.now) }
+    ensures places { IfOk result (λ x. Leads (each_puts (map group_places x.0.items)) (kept tokens.now)
+        (kept x.1.now)) }
     ensures shorter { IfOk result (λ x. length x.1.now ≤ length tokens.now) }
 {
     let mut items = Vec::new(alloc);
@@ -110,7 +112,7 @@ pub fn switch_statement(
     ensures gives { Gives (λ x. (stmt_of x.0.value, map spelled x.1.now)) result (row_at method_readers
         (stmt_at method_readers limit) (block_at method_readers limit) limit (codes "switch")
         (map spelled tokens.now)) }
-    ensures places { IfOk result (λ x. stmt_places x.0.value (kept x.1.now) ≡ kept tokens.now) }
+    ensures places { IfOk result (λ x. Leads (stmt_places x.0.value) (kept tokens.now) (kept x.1.now)) }
     ensures shorter { IfOk result (λ x. length x.1.now ≤ length tokens.now) }
 {
     let (value, inside, rest) = switch_front(alloc, limit, tokens)?;

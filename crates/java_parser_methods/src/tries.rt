@@ -7,6 +7,7 @@ ghost use Rattle.java_parser_grammar.specs.StatementReading.{pieces_at, stmt_at,
 ghost use Rattle.java_parser_grammar.specs.JavaReaders.{method_readers};
 ghost use Rattle.java_parser_methods.specs.TryView.{block_of, parts_places};
 ghost use Rattle.java_parser_methods.specs.RowReading.{parts_at, try_at};
+ghost use Rattle.java_parser_types.specs.LedPlaces.{Leads};
 ghost use Rattle.java_parser_types.specs.Tokens.{spelled};
 ghost use Rattle.java_parser_types.specs.ReadAnswer.{Gives};
 
@@ -27,7 +28,7 @@ fn clause(alloc: Global, limit: u32, tokens: &[Token]) -> Result<(CatchTree, &[T
     requires room { suc (suc limit) < 2 ^ 32 }
     ensures gives { Gives (λ x. (catch_of x.0, map spelled x.1.now)) result (pieces_at method_readers
         (stmt_at method_readers limit) (block_at method_readers limit) limit catch_row (map spelled tokens.now)) }
-    ensures places { IfOk result (λ x. catch_places x.0 (kept x.1.now) ≡ kept tokens.now) }
+    ensures places { IfOk result (λ x. Leads (catch_places x.0) (kept tokens.now) (kept x.1.now)) }
     ensures shorter { IfOk result (λ x. length x.1.now ≤ length tokens.now) }
 {
     let (parameter, rest) = catch_parameter(alloc, limit, tokens)?;
@@ -45,7 +46,7 @@ fn parts(alloc: Global, limit: u32, tokens: &[Token]) -> Result<(TryParts, &[Tok
       map spelled x.1.now,
     )) result (parts_at method_readers (stmt_at method_readers limit)
         (block_at method_readers limit) limit (map spelled tokens.now)) }
-    ensures places { IfOk result (λ x. parts_places x.0 (kept x.1.now) ≡ kept tokens.now) }
+    ensures places { IfOk result (λ x. Leads (parts_places x.0) (kept tokens.now) (kept x.1.now)) }
     ensures shorter { IfOk result (λ x. length x.1.now ≤ length tokens.now) }
 {
     let mut parts = TryParts::new(alloc);
@@ -80,7 +81,7 @@ pub fn try_statement(
     requires room { suc (suc limit) < 2 ^ 32 }
     ensures gives { Gives (λ x. (stmt_of x.0.value, map spelled x.1.now)) result (try_at method_readers
         (stmt_at method_readers limit) (block_at method_readers limit) limit (map spelled tokens.now)) }
-    ensures places { IfOk result (λ x. stmt_places x.0.value (kept x.1.now) ≡ kept tokens.now) }
+    ensures places { IfOk result (λ x. Leads (stmt_places x.0.value) (kept tokens.now) (kept x.1.now)) }
     ensures shorter { IfOk result (λ x. length x.1.now ≤ length tokens.now) }
 {
     let (resources, rest) = resources(alloc, limit, tokens)?;

@@ -1,31 +1,62 @@
 //! Reading what stands in the parentheses of a `try` and of a `catch` (JLS 14.20).
-ghost use Rattle.std.specs.Prelude.{◌≡◌, ◌<◌, ◌≤◌, ◌^◌, ◌++◌, ◌∷◌, [], suc, None, Some, length, map};
+ghost use Rattle.std.specs.Prelude.{◌≡◌, ◌<◌, ◌≤◌, ◌^◌, ◌++◌, ◌∷◌, [], codes, suc, None, Some, length, map};
 ghost use Rattle.std.specs.Prelude.{option_map, IfOk, IfSome, MatchOption};
 ghost use Rattle.java_tree.specs.KeptPlaces.{kept, maybe_puts, each_puts, all_places, ty_places, resource_places};
 ghost use Rattle.java_tree.specs.KeptPlaces.{resources_places, catch_parameter_places};
 ghost use Rattle.java_tree.specs.View.{ty_of, resource_of, resources_of, catch_parameter_of};
 ghost use Rattle.java_parser_grammar.specs.StatementReading.{resource_at, more_resources_at, maybe_resources_at};
-ghost use Rattle.java_parser_grammar.specs.StatementReading.{bars_at, catch_parameter_at};
+ghost use Rattle.java_parser_grammar.specs.StatementReading.{named_at, catch_parameter_at};
+ghost use Rattle.java_parser_grammar.specs.TypeReading.{behind_each};
 ghost use Rattle.java_parser_grammar.specs.JavaReaders.{method_readers};
-ghost use Rattle.java_parser_methods.specs.RowReading.{resource_behind, resources_close, resources_end, caught_at};
+ghost use Rattle.java_parser_methods.specs.RowReading.{resource_from, resource_behind, resources_close};
+ghost use Rattle.java_parser_methods.specs.RowReading.{resources_end, caught_at};
+ghost use Rattle.java_parser_methods.specs.TypedReading.{typed_of, typed_places};
+ghost use Rattle.java_parser_types.specs.LedPlaces.{Leads, LeadsOn};
 ghost use Rattle.java_parser_types.specs.Tokens.{spelled};
 ghost use Rattle.java_parser_types.specs.Finishing.{finished};
 ghost use Rattle.java_parser_types.specs.Endings.{as_they_are};
 ghost use Rattle.java_parser_types.specs.ReadAnswer.{Gives};
 
+use super::modifiers::before_type;
 use super::parameters::thrown;
+use super::typed::{TypedFront, typed};
 use java_lexer::Token;
 use java_parser_expressions::expressions::read_expression;
-use java_parser_lookahead::lookahead::final_at;
 use java_parser_types::error::ReadError;
 use java_parser_types::look::{after_sign, name, sign};
-use java_parser_types::types::read_type;
 use java_tree::{Apart, CatchParameterTree, ResourceTree, ResourcesTree, TypeTree};
 use racer_base::Items;
 use std::alloc::Global;
 
-/// `final T x = a` (JLS 14.20.3).
-#[tactic(auto, unfolding(java_parser_grammar::specs::StatementReading::resource_at))]
+/// `x = a` behind the modifiers and the type of a resource, which are these.
+#[tactic(auto, unfolding(crate::specs::RowReading::resource_from))]
+fn named_resource(
+    alloc: Global,
+    limit: u32,
+    front: TypedFront,
+    tokens: &[Token],
+) -> Result<(ResourceTree, &[Token]), ReadError>
+    requires few { length tokens.now < 2 ^ 32 }
+    requires room { suc (suc limit) < 2 ^ 32 }
+    ensures gives { Gives (λ x. (resource_of x.0, map spelled x.1.now)) result (resource_from method_readers limit
+        (typed_of front) (map spelled tokens.now)) }
+    ensures places { IfOk result (λ x. LeadsOn (typed_places front) (resource_places x.0) (kept tokens.now)
+        (kept x.1.now)) }
+    ensures shorter { IfOk result (λ x. length x.1.now ≤ length tokens.now) }
+{
+    let (name, rest) = name(alloc, tokens)?;
+    let rest = sign(rest, "=")?;
+    let (value, rest) = read_expression(alloc, limit, 0, rest)?;
+    let resource = ResourceTree {
+        modifiers: front.modifiers,
+        kind: Box::into_inner(front.kind),
+        name,
+        value: Box::into_inner(value.tree),
+    };
+    Ok((resource, rest))
+}
+
+/// A resource of a `try` (JLS 14.20.3).
 fn resource(
     alloc: Global,
     limit: u32,
@@ -35,21 +66,11 @@ fn resource(
     requires room { suc (suc limit) < 2 ^ 32 }
     ensures gives { Gives (λ x. (resource_of x.0, map spelled x.1.now)) result (resource_at method_readers limit
         (map spelled tokens.now)) }
-    ensures places { IfOk result (λ x. resource_places x.0 (kept x.1.now) ≡ kept tokens.now) }
+    ensures places { IfOk result (λ x. Leads (resource_places x.0) (kept tokens.now) (kept x.1.now)) }
     ensures shorter { IfOk result (λ x. length x.1.now ≤ length tokens.now) }
 {
-    let (is_final, rest) = final_at(tokens);
-    let (kind, rest) = read_type(alloc, limit, rest)?;
-    let (name, rest) = name(alloc, rest)?;
-    let rest = sign(rest, "=")?;
-    let (value, rest) = read_expression(alloc, limit, 0, rest)?;
-    let resource = ResourceTree {
-        is_final,
-        kind: kind.tree,
-        name,
-        value: Box::into_inner(value.tree),
-    };
-    Ok((resource, rest))
+    let (front, rest) = typed(alloc, limit, tokens)?;
+    named_resource(alloc, limit, front, rest)
 }
 
 /// The tokens behind the `;` before one more resource; none where the `)` comes.
@@ -90,8 +111,8 @@ fn resources_end(
 ) -> Result<(Apart<ResourcesTree>, &[Token]), ReadError>
     ensures gives { Gives (λ x. (resources_of x.0, map spelled x.1.now)) result (resources_end
         (map resource_of items.items) (resources_close (map spelled tokens.now))) }
-    ensures places { IfOk result (λ x. resources_places x.0 (kept x.1.now) ≡ each_puts
-        (map resource_places items.items) (kept tokens.now)) }
+    ensures places { IfOk result (λ x. LeadsOn (λ rest. each_puts (map resource_places items.items) rest)
+        (resources_places x.0) (kept tokens.now) (kept x.1.now)) }
     ensures shorter { IfOk result (λ x. length x.1.now ≤ length tokens.now) }
 {
     let (last_semicolon, rest) = resources_close(tokens)?;
@@ -115,8 +136,8 @@ fn more_resources(
     ensures gives { Gives (λ x. (resources_of x.0, map spelled x.1.now)) result (resources_end (resource_of first
         ∷ []) (more_resources_at method_readers limit (suc (length (map spelled tokens.now)))
         (map spelled tokens.now))) }
-    ensures places { IfOk result (λ x. resources_places x.0 (kept x.1.now) ≡ resource_places first
-        (kept tokens.now)) }
+    ensures places { IfOk result (λ x. LeadsOn (resource_places first) (resources_places x.0) (kept tokens.now) (kept
+        x.1.now)) }
     ensures shorter { IfOk result (λ x. length x.1.now ≤ length tokens.now) }
 {
     let mut items = Vec::new(alloc);
@@ -143,8 +164,8 @@ pub fn resources(
     requires room { suc (suc limit) < 2 ^ 32 }
     ensures gives { Gives (λ x. (option_map resources_of x.0, map spelled x.1.now)) result
         (maybe_resources_at method_readers limit (map spelled tokens.now)) }
-    ensures places { IfOk result (λ x. maybe_puts (option_map resources_places x.0) (kept x.1.now)
-        ≡ kept tokens.now) }
+    ensures places { IfOk result (λ x. Leads (maybe_puts (option_map resources_places x.0)) (kept tokens.now) (kept
+        x.1.now)) }
     ensures shorter { IfOk result (λ x. length x.1.now ≤ length tokens.now) }
 {
     let Some(after) = after_sign(tokens, "(") else {
@@ -164,7 +185,8 @@ fn more_types(
 ) -> Result<(Vec<TypeTree>, &[Token]), ReadError>
     requires { length tokens.now < 2 ^ 32 }
     ensures gives { Gives (λ x. (map ty_of x.0.items, map spelled x.1.now)) result (finished as_they_are (ty_of first
-        ∷ []) (bars_at method_readers limit (length (map spelled tokens.now)) (map spelled tokens.now))) }
+        ∷ []) (behind_each (codes "|") (named_at method_readers limit) (length (map spelled tokens.now))
+        (map spelled tokens.now))) }
     ensures places { IfOk result (λ x. all_places (map ty_places x.0.items) ++ kept x.1.now ≡ ty_places first
         ++ kept tokens.now) }
     ensures shorter { IfOk result (λ x. length x.1.now ≤ length tokens.now) }
@@ -209,17 +231,18 @@ pub fn catch_parameter(
     requires { length tokens.now < 2 ^ 32 }
     ensures gives { Gives (λ x. (catch_parameter_of x.0, map spelled x.1.now)) result
         (catch_parameter_at method_readers limit (map spelled tokens.now)) }
-    ensures places { IfOk result (λ x. catch_parameter_places x.0 (kept x.1.now) ≡ kept tokens.now) }
+    ensures places { IfOk result (λ x. Leads (catch_parameter_places x.0) (kept tokens.now) (kept x.1.now)) }
     ensures shorter { IfOk result (λ x. length x.1.now ≤ length tokens.now) }
 {
     let rest = sign(tokens, "(")?;
-    let (is_final, rest) = final_at(rest);
+    let (modifiers, rest) = before_type(alloc, rest)?;
     let (types, rest) = caught(alloc, limit, rest)?;
     let (name, rest) = name(alloc, rest)?;
     let rest = sign(rest, ")")?;
+    let modifiers = Items::from(modifiers);
     let types = Items::from(types);
     let parameter = CatchParameterTree {
-        is_final,
+        modifiers,
         types,
         name,
     };

@@ -2,7 +2,7 @@
 ghost use Rattle.std.specs.Prelude.{◌≡◌, ◌≤◌, [], None, is_some, length, map, option_map, IfOk};
 ghost use Rattle.java_tree.specs.Trees.{pack_stmts};
 ghost use Rattle.java_tree.specs.Rows.{Try};
-ghost use Rattle.java_tree.specs.KeptPlaces.{kept, maybe_puts, each_puts, stmt_places, resources_places};
+ghost use Rattle.java_tree.specs.KeptPlaces.{Marks, kept, maybe_puts, each_puts, stmt_places, resources_places};
 ghost use Rattle.java_tree.specs.View.{stmt_of, resources_of, catch_of, Finally, pack_rows};
 ghost use Rattle.java_parser_expressions.specs.Closings.{as_read};
 ghost use Rattle.java_parser_parts.specs.Parts.{next_part};
@@ -59,9 +59,9 @@ fn trying(
     ensures gives { Gives (λ x. (stmt_of x.0.value, map spelled x.1.now)) result (as_read
         (Try (option_map resources_of resources) (pack_stmts (map stmt_of body.items)) (pack_rows (map catch_of
         parts.clauses.items)) (option_map (λ ss. Finally (block_of ss)) parts.last)) (map spelled tokens.now)) }
-    ensures places { IfOk result (λ x. stmt_places x.0.value (kept x.1.now) ≡ maybe_puts
-        (option_map resources_places resources) (each_puts (map stmt_places body.items) (parts_places parts
-        (kept tokens.now)))) }
+    ensures places { IfOk result (λ x. (marks : Marks) → stmt_places x.0.value marks ≡ maybe_puts (option_map
+        resources_places resources) (each_puts (map stmt_places body.items) (parts_places parts marks))) }
+    ensures behind { IfOk result (λ x. kept x.1.now ≡ kept tokens.now) }
     ensures shorter { IfOk result (λ x. length x.1.now ≤ length tokens.now) }
 {
     let tree = TryTree {
@@ -84,9 +84,9 @@ pub fn tried(
     ensures gives { Gives (λ x. (stmt_of x.0.value, map spelled x.1.now)) result (try_with
         (option_map resources_of resources) (pack_stmts (map stmt_of body.items)) (pack_rows (map catch_of
         parts.clauses.items)) (option_map block_of parts.last) (map spelled tokens.now)) }
-    ensures places { IfOk result (λ x. stmt_places x.0.value (kept x.1.now) ≡ maybe_puts
-        (option_map resources_places resources) (each_puts (map stmt_places body.items) (parts_places parts
-        (kept tokens.now)))) }
+    ensures places { IfOk result (λ x. (marks : Marks) → stmt_places x.0.value marks ≡ maybe_puts (option_map
+        resources_places resources) (each_puts (map stmt_places body.items) (parts_places parts marks))) }
+    ensures behind { IfOk result (λ x. kept x.1.now ≡ kept tokens.now) }
     ensures shorter { IfOk result (λ x. length x.1.now ≤ length tokens.now) }
 {
     if !stands(&resources, parts.clauses.as_slice(), &parts.last) {

@@ -3,10 +3,11 @@ ghost use Rattle.std.specs.Prelude.{◌≡◌, ◌<◌, ◌≤◌, ◌^◌, suc,
 ghost use Rattle.java_parser_types.specs.declared.error.ReadError.TheVariants.{Unformed};
 ghost use Rattle.java_tree.specs.Trees.{Method};
 ghost use Rattle.java_tree.specs.Spelling.{spelling};
-ghost use Rattle.java_tree.specs.Formed.{FormedMethod};
+ghost use Rattle.java_tree.specs.FormedMethods.{FormedMethod};
 ghost use Rattle.java_tree.specs.Nesting.{method_nesting};
 ghost use Rattle.java_tree.specs.KeptPlaces.{kept};
-ghost use Rattle.java_tree.specs.MethodPlaces.{method_marks, AreAt};
+ghost use Rattle.java_tree.specs.KeptPlaces.{AreAt};
+ghost use Rattle.java_tree.specs.MethodPlaces.{method_marks};
 ghost use Rattle.java_tree.specs.View.{method_of};
 ghost use Rattle.java_parser_grammar.specs.Heads.{has_synchronized};
 ghost use Rattle.java_parser_types.specs.Tokens.{spelled};

@@ -2,7 +2,7 @@
 use Rattle.std.specs.Prelude.{ℕ, Bool, true, false, List, Some, codes}
 use Rattle.java_tree.specs.declared.words.Spelled.{Spelled}
 use Rattle.java_tree.specs.Trees.{Expr, Label, Default, Several, no_row, row_then}
-use Rattle.java_parser_grammar.specs.ExpressionReading.{Reading}
+use Rattle.java_parser_grammar.specs.BalancedReading.{Reading}
 use Rattle.java_parser_grammar.specs.Taking.{◌>>=◌, match_option, after_sign, after_keyword}
 use Rattle.java_parser_grammar.specs.Readers.{Readers}
 use Rattle.java_parser_grammar.specs.StatementReading.{condition_at}

@@ -9,7 +9,7 @@ use java_tree::Statement;
 pub fn is_body(statement: &Statement) -> bool
     ensures { result ≡ is_body (stmt_of statement.now) }
 {
-    !matches!(statement, Statement::Local(_))
+    !matches!(statement, Statement::Local(_) | Statement::LocalClass(_, _))
 }
 
 /// The same for the statement behind a name and its `:` (JLS 14.7).

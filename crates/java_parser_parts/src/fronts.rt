@@ -4,6 +4,7 @@ ghost use Rattle.java_tree.specs.KeptPlaces.{kept, expr_places};
 ghost use Rattle.java_tree.specs.View.{expr_of};
 ghost use Rattle.java_parser_grammar.specs.JavaReaders.{method_readers};
 ghost use Rattle.java_parser_parts.specs.Parts.{switch_front_at};
+ghost use Rattle.java_parser_types.specs.LedPlaces.{Leads};
 ghost use Rattle.java_parser_types.specs.Tokens.{spelled};
 ghost use Rattle.java_parser_types.specs.ReadAnswer.{Gives};
 
@@ -26,7 +27,7 @@ pub fn switch_front(
     ensures gives { Gives (λ x. (expr_of x.0.value, map spelled x.2.now)) result (switch_front_at method_readers limit
         (map spelled tokens.now)) }
     ensures nesting { IfOk result (λ x. x.1 ≡ limit) }
-    ensures places { IfOk result (λ x. expr_places x.0.value (kept x.2.now) ≡ kept tokens.now) }
+    ensures places { IfOk result (λ x. Leads (expr_places x.0.value) (kept tokens.now) (kept x.2.now)) }
     ensures shorter { IfOk result (λ x. length x.2.now < length tokens.now) }
 {
     let (value, rest) = condition(alloc, limit, tokens)?;

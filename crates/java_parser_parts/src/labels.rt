@@ -6,6 +6,7 @@ ghost use Rattle.java_parser_grammar.specs.Taking.{after_sign};
 ghost use Rattle.java_parser_grammar.specs.StatementReading.{begins_label, label_at, labels_at};
 ghost use Rattle.java_parser_grammar.specs.JavaReaders.{method_readers};
 ghost use Rattle.java_parser_parts.specs.Parts.{default_at};
+ghost use Rattle.java_parser_types.specs.LedPlaces.{Leads};
 ghost use Rattle.java_parser_types.specs.Tokens.{spelled};
 ghost use Rattle.java_parser_types.specs.ReadAnswer.{Gives};
 
@@ -38,7 +39,7 @@ pub fn ends_group(tokens: &[Token]) -> bool
 /// `default :`.
 fn default_label(tokens: &[Token]) -> Result<(LabelTree, &[Token]), ReadError>
     ensures gives { Gives (λ x. (label_of x.0, map spelled x.1.now)) result (default_at (map spelled tokens.now)) }
-    ensures places { IfOk result (λ x. label_places x.0 (kept x.1.now) ≡ kept tokens.now) }
+    ensures places { IfOk result (λ x. Leads (label_places x.0) (kept tokens.now) (kept x.1.now)) }
     ensures shorter { IfOk result (λ x. length x.1.now ≤ length tokens.now) }
 {
     let rest = keyword(tokens, "default")?;
@@ -53,7 +54,7 @@ fn label(alloc: Global, limit: u32, tokens: &[Token]) -> Result<(LabelTree, &[To
     requires room { suc (suc limit) < 2 ^ 32 }
     ensures gives { Gives (λ x. (label_of x.0, map spelled x.1.now)) result (label_at method_readers limit
         (map spelled tokens.now)) }
-    ensures places { IfOk result (λ x. label_places x.0 (kept x.1.now) ≡ kept tokens.now) }
+    ensures places { IfOk result (λ x. Leads (label_places x.0) (kept tokens.now) (kept x.1.now)) }
     ensures shorter { IfOk result (λ x. length x.1.now ≤ length tokens.now) }
 {
     let Some(after) = after_word(tokens, "case") else {
@@ -74,7 +75,8 @@ pub fn labels(
     requires room { suc (suc limit) < 2 ^ 32 }
     ensures gives { Gives (λ x. (map label_of x.0.items, map spelled x.1.now)) result (labels_at method_readers limit
         (length (map spelled tokens.now)) (map spelled tokens.now)) }
-    ensures places { IfOk result (λ x. each_puts (map label_places x.0.items) (kept x.1.now) ≡ kept tokens.now) }
+    ensures places { IfOk result (λ x. Leads (each_puts (map label_places x.0.items)) (kept tokens.now)
+        (kept x.1.now)) }
     ensures shorter { IfOk result (λ x. length x.1.now ≤ length tokens.now) }
 {
     let mut items = Vec::new(alloc);

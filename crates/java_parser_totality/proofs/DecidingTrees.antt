@@ -12,16 +12,18 @@ use Rattle.java_tree.specs.Trees.{Ty, Init, Annotation, Modifier, Word, Annotate
 use Rattle.java_tree.specs.Trees.{TypeResult}
 use Rattle.java_tree.specs.Spelling.{behind_points, names_onto, ty_onto, init_onto, annotation_onto, modifier_onto}
 use Rattle.java_tree.specs.Spelling.{modifiers_onto, result_onto}
-use Rattle.java_tree.specs.Formed.{Each, has_some, FormedTy, FormedInit, FormedAnnotation, FormedResult}
+use Rattle.java_tree.specs.FormedMethods.{FormedResult}
+use Rattle.java_tree.specs.FormedModifiers.{Each, has_some, FormedAnnotation}
+use Rattle.java_tree.specs.Formed.{FormedTy, FormedInit}
 use Rattle.java_tree.specs.Nesting.{ty_nesting, init_nesting, result_nesting}
-use Rattle.java_parser_grammar.specs.Taking.{is_keyword, is_keyword_kind}
-use Rattle.java_parser_grammar.specs.Lookahead.{is_word_name}
+use Rattle.java_tree.specs.Brackets.{is_keyword, is_keyword_kind}
+use Rattle.java_tree.specs.Brackets.{is_word_name}
 use Rattle.java_parser_grammar.specs.Leads.{lead, pull}
 use Rattle.java_parser_grammar.specs.TypeReading.{ty_at}
 use Rattle.java_parser_grammar.specs.ExpressionReading.{init_at}
 use Rattle.java_parser_grammar.proofs.Appended.{annotation_append}
 use Rattle.java_parser_grammar.proofs.Ensuring.{of_equation, keyword_is, name_is}
-use Rattle.java_parser_grammar.proofs.FoundExpressions.{init_found}
+use Rattle.java_parser_grammar.proofs.FoundExpressions.{init_found, nothing_leaves}
 use Rattle.java_parser_grammar.proofs.FoundTypes.{ty_found}
 use Rattle.java_parser_grammar.proofs.SoundExpressions.{variable_sound}
 use Rattle.java_parser_grammar.proofs.SoundLists.{GotInit}
@@ -71,7 +73,7 @@ no-pull = omega arith
 init-read : (s : List Spelled) (i : Init) → IsInitOf s i → init_at MAX_NESTING s ≡ Some (i, [])
 init-read s i is =
     ap (init_at MAX_NESTING) (sym is.spelled)
-    ∙ init_found i is.formed MAX_NESTING [] is.nested no-pull
+    ∙ init_found i is.formed MAX_NESTING [] is.nested no-pull nothing_leaves
 
 pub decided-init : (s : List Spelled) → Decided ((i : Init) × IsInitOf s i)
 decided-init s = by (init_at MAX_NESTING s) refl where

@@ -1,5 +1,6 @@
 pub mod Vectors
 pub mod Parts
+mod PartTokens
 pub mod MadeTypes
 pub mod ExpressionForms
 pub mod MadeExpressions
@@ -19,3 +20,7 @@ pub mod TotalMembers
 pub mod MadeAnnotations
 pub mod TotalUnits
 pub mod FewTokens
+mod MadeMarks
+mod MadeReferred
+mod MadeClasses
+mod MadeWords

@@ -13,8 +13,8 @@ use Rattle.java_tree.specs.declared.methods.AnnotationTree.{AnnotationTree}
 use Rattle.java_tree.specs.Words.{sign, identifier}
 use Rattle.java_tree.specs.Brackets.{is_sign}
 use Rattle.java_tree.specs.Spelling.{behind_points}
-use Rattle.java_tree.specs.Formed.{has_some}
-use Rattle.java_parser_grammar.specs.Lookahead.{begins_with}
+use Rattle.java_tree.specs.FormedModifiers.{has_some}
+use Rattle.java_parser_grammar.specs.Leads.{begins_with}
 use Rattle.java_parser_grammar.specs.Tokens.{plain, plain_all, is_name, begins, begins_sign}
 use Rattle.java_parser_grammar.specs.Cuts.{onto_first, with_cut, joined}
 use Rattle.java_parser_grammar.specs.Brackets.{is_opening, is_closing, depth_behind}

@@ -17,7 +17,7 @@ use Rattle.java_tree.specs.declared.statements.TryTree.{roll-TryTree}
 use Rattle.java_tree.specs.declared.statements.CatchTree.{CatchTree}
 use Rattle.java_tree.specs.declared.statements.GroupTree.{GroupTree}
 use Rattle.java_tree.specs.Words.{keyword, sign}
-use Rattle.java_tree.specs.KeptPlaces.{Places, Puts, is_kept, each_puts, maybe_puts, name_places, expr_places}
+use Rattle.java_tree.specs.KeptPlaces.{Marks, Puts, is_kept, each_puts, maybe_puts, name_places, expr_places}
 use Rattle.java_tree.specs.KeptPlaces.{resources_places, catch_parameter_places, stmt_places, catch_places}
 use Rattle.java_tree.specs.KeptPlaces.{group_places}
 use Rattle.java_tree.specs.Trees.{Row, Pieces, no_piece, a_token, an_expr, maybe_an_expr, maybe_a_name, maybe_behind}
@@ -129,7 +129,7 @@ PlaceIf true = Place
 PlaceIf false = Unit {0}
 
 abbrev pub place_if : (b : Bool) → PlaceIf b → Puts
-place_if true p ps = p ∷ ps
+place_if true p ps = Some p ∷ ps
 place_if false p ps = ps
 
 abbrev pub PlaceOf : List ℕ → Type 0
@@ -143,7 +143,7 @@ place_of word = place_if (is_kept kind.Keyword word)
 pub record Builds (word : List ℕ) (row : Slots) : Type 0 where
   pub make : PlaceOf word → Values row → Statement
   pub is : (p : PlaceOf word) (x : Values row) → count_of row x < most → stmt_of (make p x) ≡ Row word (seen row x)
-  pub at : (p : PlaceOf word) (x : Values row) → count_of row x < most → (ps : Places)
+  pub at : (p : PlaceOf word) (x : Values row) → count_of row x < most → (ps : Marks)
       → stmt_places (make p x) ps ≡ place_of word p (kept_of row x ps)
 
 while-builds : Builds (codes "while") while_row
@@ -195,7 +195,7 @@ sync-builds = record {
       ∙ ap (λ (l : List Statement). Sync (expr_of x.0) (pack_stmts (map stmt_of l)))
       (vector-items x.1.0 (omega (arith, few)));
   at = λ p x few ps. ap (λ (g : Puts). g ps) (places-of (statement.Sync p x.0 (vector x.1.0)))
-      ∙ ap (λ (l : List Statement). p ∷ expr_places x.0 (each_puts (map stmt_places l) ps))
+      ∙ ap (λ (l : List Statement). Some p ∷ expr_places x.0 (each_puts (map stmt_places l) ps))
       (vector-items x.1.0 (omega (arith, few)));
 }
 
@@ -230,7 +230,7 @@ clauses-are (x ∷ xs) few =
     (clause-is x.0 x.1.0 (omega (arith, few)))
     ∙ ap (row_then (seen catch_row x)) (clauses-are xs (omega (arith, few)))
 
-clauses-at : (xs : List (Values catch_row)) → all_count (count_of catch_row) xs < most → (ps : Places)
+clauses-at : (xs : List (Values catch_row)) → all_count (count_of catch_row) xs < most → (ps : Marks)
     → each_puts (map catch_places (map clause_of xs)) ps ≡ each_puts (map (kept_of catch_row) xs) ps
 clauses-at [] few ps = refl
 clauses-at (x ∷ xs) few ps =
@@ -253,7 +253,7 @@ last-is None few = refl
 last-is (Some x) few =
     ap (λ (l : List Statement). Some (Finally (pack_stmts (map stmt_of l)))) (vector-items x.0 (omega (arith, few)))
 
-last-at : (o : Option (Values finally_row)) → maybe_count (count_of finally_row) o < most → (ps : Places)
+last-at : (o : Option (Values finally_row)) → maybe_count (count_of finally_row) o < most → (ps : Marks)
     → maybe_puts (option_map (λ ss. each_puts (map stmt_places ss.items)) (last_of o)) ps
     ≡ maybe_puts (option_map (kept_of finally_row) o) ps
 last-at None few ps = refl
@@ -292,12 +292,12 @@ try-is rs body clauses last b c l =
 
 try-at : (rs : Option ResourcesTree) (body : List Statement) (clauses : List (Values catch_row))
     (last : Option (Values finally_row)) → length body < most → all_count (count_of catch_row) clauses < most
-    → maybe_count (count_of finally_row) last < most → (ps : Places)
+    → maybe_count (count_of finally_row) last < most → (ps : Marks)
     → stmt_places (a_try rs body clauses last) ps ≡ maybe_puts (option_map resources_places rs)
     (each_puts (map stmt_places body) (each_puts (map (kept_of catch_row) clauses)
     (maybe_puts (option_map (kept_of finally_row) last) ps)))
 try-at rs body clauses last b c l ps =
-    let end : Places = maybe_puts (option_map (λ ss. each_puts (map stmt_places ss.items)) (last_of last)) ps in
+    let end : Marks = maybe_puts (option_map (λ ss. each_puts (map stmt_places ss.items)) (last_of last)) ps in
     let front : Puts = λ rest. maybe_puts (option_map resources_places rs) (each_puts (map stmt_places body) rest) in
     ap (λ (g : Puts). g ps) (try-places rs (vector body) (vector (map clause_of clauses)) (last_of last))
     ∙ ap (λ (ss : List Statement). maybe_puts (option_map resources_places rs) (each_puts (map stmt_places ss)
@@ -305,7 +305,7 @@ try-at rs body clauses last b c l ps =
     ∙ ap (λ (cs : List CatchTree). front (each_puts (map catch_places cs) end))
     (vector-items (map clause_of clauses) (clauses-few clauses c))
     ∙ ap front (clauses-at clauses c end)
-    ∙ ap (λ (qs : Places). front (each_puts (map (kept_of catch_row) clauses) qs)) (last-at last l ps)
+    ∙ ap (λ (qs : Marks). front (each_puts (map (kept_of catch_row) clauses) qs)) (last-at last l ps)
 
 try-builds : Builds (codes "try") try_row
 try-builds = record {

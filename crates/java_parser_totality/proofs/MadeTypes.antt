@@ -1,7 +1,8 @@
 -- A type of the code is made of the tokens of a formed type.
-use Rattle.std.proofs.Common.{◌≡◌, ℕ, zero, suc, ◌<◌, Bool, true, false, IsTrue, List, [], ◌∷◌, ◌++◌, Some}
+use Rattle.std.proofs.Common.{◌≡◌, ℕ, ◌<◌, Bool, true, false, IsTrue, List, [], ◌∷◌, ◌++◌, Some}
 use Rattle.std.proofs.Common.{None, map}
-use Rattle.std.proofs.Common.{length, refl, sym, ap, ◌∙◌, arith, rules, codes}
+use Rattle.std.proofs.Common.{◌||◌, inl, inr, length, refl, sym, ap, subst, ◌∙◌, arith, rules, codes}
+use Rattle.std.proofs.lemmas.Bool.{false≢true, or_cases}
 use Rattle.std.specs.Prelude.{bytes_eq}
 use Rattle.std.specs.Cmp.Lexicographic.{bytes_decides}
 use Rattle.std.proofs.lemmas.List.{append_assoc}
@@ -16,22 +17,24 @@ use Rattle.java_tree.specs.declared.types.TypeArgument.{TypeArgument, roll-TypeA
 use Rattle.java_tree.specs.declared.types.BaseType.TheOpen as type
 use Rattle.java_tree.specs.declared.types.BaseType.TheFolds.{the_lemmas}
 use Rattle.java_tree.specs.declared.words.Spelled.{Spelled}
-use Rattle.java_tree.specs.Words.{sign, sign_glued, keyword, identifier}
 use Rattle.java_tree.specs.KeptPlaces.{Places, is_kept, all_places, ty_places, base_places, part_places}
 use Rattle.java_tree.specs.KeptPlaces.{angled_places, argument_places}
 use Rattle.java_tree.specs.Trees.{Ty, Typed, Base, Plain, Named, Parts, no_part, part_then, Part, Bare, Generic}
 use Rattle.java_tree.specs.Trees.{Arguments, Angled, ArgumentList, no_argument, argument_then, Argument, Exact, Any}
 use Rattle.java_tree.specs.Trees.{Extends, Super, pack_parts, pack_arguments}
 use Rattle.java_tree.specs.Spelling.{ty_onto, base_onto, more_parts_onto, part_onto, angled_onto, arguments_onto}
-use Rattle.java_tree.specs.Spelling.{more_arguments_onto, argument_onto, brackets_onto}
+use Rattle.java_tree.specs.Spelling.{more_arguments_onto, argument_onto}
 use Rattle.java_tree.specs.Formed.{FormedTy, FormedBase, FormedParts, FormedArguments, FormedArgument}
-use Rattle.java_tree.specs.Formed.{FormedLastPart, FormedClass, FormedClassParts, is_plain_word, has_part}
+use Rattle.java_tree.specs.Formed.{FormedLastPart, FormedClass, FormedClassParts, FormedLiteral, is_plain_word}
+use Rattle.java_tree.specs.Formed.{has_part}
+use Rattle.java_tree.specs.Formed.{are_bare_parts}
 use Rattle.java_tree.specs.View.{ty_of, base_of, part_of, angled_of, argument_of, name_of}
 use Rattle.java_tree.proofs.KeptWords.{plain-unkept}
 use Rattle.java_parser_totality.specs.Totality.{most}
 use Rattle.java_parser_totality.proofs.Parts as parts
-use Rattle.java_parser_totality.proofs.Parts.{Made, Makes, Maker, maker, word, word-made, placed, placed-made, nothing}
-use Rattle.java_parser_totality.proofs.Parts.{nothing-made, and, IsAs, as-made}
+use Rattle.java_parser_totality.proofs.Parts.{Made, Makes, Maker, maker, nothing, nothing-made, and, IsAs, as-made}
+use Rattle.java_parser_totality.proofs.PartTokens as tokens
+use Rattle.java_parser_totality.proofs.PartTokens.{some_brackets}
 use Rattle.java_parser_totality.proofs.Vectors.{vector, vector-items}
 use Rattle.java_parser_grammar.proofs.FoundMadeTypes.{last_part}
 
@@ -51,36 +54,16 @@ Plain-Part = parts.Part Places
 -- ---- words
 
 abbrev pub a_sign : (text : List ℕ) → Maker Same
-a_sign text = maker Same (word Same (sign text)) (word-made Same (sign text) refl)
+a_sign text = tokens.a_sign Same text
 
 abbrev pub a_glued : (glued : Bool) (text : List ℕ) → Maker Same
-a_glued glued text = maker Same (word Same (sign_glued glued text)) (word-made Same (sign_glued glued text) refl)
+a_glued glued text = tokens.a_glued Same glued text
 
 abbrev pub a_keyword : (text : List ℕ) → is_kept kind.Keyword text ≡ false → Maker Same
-a_keyword text unkept = maker Same (word Same (keyword text)) (word-made Same (keyword text) unkept)
-
-abbrev pub name_part : List ℕ → Plain-Part
-name_part x =
-    record {
-      X = Ident;
-      ok = λ i. name_of i ≡ x;
-      put = λ i ps. i.place ∷ ps;
-      size = λ _. 1;
-      onto = λ rest. identifier x ∷ rest;
-    }
-
-pub name-made : (x : List ℕ) → Makes Same (name_part x)
-name-made x =
-    as-made Same (maker Same (placed Same put_place puts-place (identifier x)) (placed-made Same put_place puts-place
-    (identifier x) refl)) (name_part x) (λ p. record { text = x; place = p }) (record {
-      ok = λ p s h. refl;
-      put = λ p s ps. refl;
-      size = λ p. omega arith;
-      onto = λ rest. refl;
-    })
+a_keyword text unkept = tokens.a_keyword Same text unkept
 
 abbrev pub a_name : (x : List ℕ) → Maker Same
-a_name x = maker Same (name_part x) (name-made x)
+a_name x = tokens.a_name Same put_place puts-place x
 
 not-this : (text other : List ℕ) → is_plain_word text ≡ true → is_plain_word other ≡ false
     → bytes_eq text other ≡ false
@@ -89,29 +72,6 @@ not-this text other plain differs = by (bytes_eq text other) refl where
   by true e = absurd (let wrong : false ≡ true = sym differs
       ∙ ap is_plain_word (sym ((bytes_decides text other).0 e)) ∙ plain in cc)
   by false e = refl
-
--- ---- `[ ]`
-
-abbrev pub brackets_part : ℕ → Plain-Part
-brackets_part n =
-    record {
-      X = Unit {0};
-      ok = λ _. Unit {0};
-      put = λ _ ps. ps;
-      size = λ _. 0;
-      onto = brackets_onto n;
-    }
-
-pub brackets-made : (n : ℕ) → Makes Same (brackets_part n)
-brackets-made zero = nothing-made Same
-brackets-made (suc n) =
-    as-made Same (and Same (a_sign (codes "[")) (and Same (a_sign (codes "]")) (maker Same (brackets_part n)
-    (brackets-made n)))) (brackets_part (suc n)) (λ x. tt) (record {
-      ok = λ x s h. tt;
-      put = λ x s ps. refl;
-      size = λ x. omega arith;
-      onto = λ rest. refl;
-    })
 
 -- ---- types
 
@@ -285,7 +245,7 @@ fits-base (Named ps) f = (each-last ps f.0, f.1)
 
 typed-made : (base : Base) (arrays : ℕ) → Makes Same (base_part base) → Makes Same (ty_part (Typed base arrays))
 typed-made base arrays m =
-    as-made Same (and Same (maker Same (base_part base) m) (maker Same (brackets_part arrays) (brackets-made arrays)))
+    as-made Same (and Same (maker Same (base_part base) m) (some_brackets Same arrays))
     (ty_part (Typed base arrays)) (λ x. roll-TypeTree (record { base = x.0; arrays = arrays })) (record {
       ok = λ x s h.
           let seen : ty_of (roll-TypeTree (record { base = x.0; arrays = arrays })) ≡ Typed (base_of x.0) arrays =
@@ -299,22 +259,24 @@ typed-made base arrays m =
       onto = λ rest. refl;
     })
 
+plain-made : (text : List ℕ) → is_kept kind.Keyword text ≡ false → Makes Same (base_part (Plain text))
+plain-made text unkept =
+    as-made Same (a_keyword text unkept) (base_part (Plain text)) (λ x. roll-BaseType (type.Plain text))
+    (record {
+      ok = λ x s h. search (rules, the_lemmas);
+      put = λ x s ps.
+          let at : base_places (roll-BaseType (type.Plain text)) ≡ [] = search (rules, the_lemmas) in
+          ap (λ l. l ++ ps) at;
+      size = λ x. omega arith;
+      onto = λ rest. refl;
+    })
+
 mutual
   pub ty-made : (t : Ty) → FormedTy t → Makes Same (ty_part t)
   ty-made (Typed base arrays) f = typed-made base arrays (base-made base (fits-base base f))
 
   base-made : (b : Base) → FitsBase b → Makes Same (base_part b)
-  base-made (Plain text) f =
-      as-made Same (a_keyword text (plain-unkept text f)) (base_part (Plain text)) (λ x. roll-BaseType
-      (type.Plain text))
-      (record {
-        ok = λ x s h. search (rules, the_lemmas);
-        put = λ x s ps.
-            let at : base_places (roll-BaseType (type.Plain text)) ≡ [] = search (rules, the_lemmas) in
-            ap (λ l. l ++ ps) at;
-        size = λ x. omega arith;
-        onto = λ rest. refl;
-      })
+  base-made (Plain text) f = plain-made text (plain-unkept text f)
   base-made (Named no_part) f = absurd (let wrong : false ≡ true = f.1 in cc)
   base-made (Named (part_then p ps)) f =
       as-made Same (and Same (maker Same (part_part p) (part-made p f.0.0)) (maker Same (parts_part
@@ -445,8 +407,19 @@ class-made (Typed (Named ps) arrays) f = typed-made (Named ps) arrays (base-made
 abbrev pub a_type : (t : Ty) → FormedTy t → Maker Same
 a_type t f = maker Same (ty_part t) (ty-made t f)
 
-abbrev pub a_placed : (s : Spelled) → is_kept s.kind s.text ≡ true → Maker Same
-a_placed s is = maker Same (placed Same put_place puts-place s) (placed-made Same put_place puts-place s is)
+-- a type before `.class`
+bare-last : (ps : Parts) → IsTrue (are_bare_parts ps) → EachLast ps
+bare-last no_part f = tt
+bare-last (part_then (Bare x) ps) f = (tt, bare-last ps f)
+bare-last (part_then (Generic x a) ps) f = absurd (false≢true f)
 
-abbrev pub some_brackets : ℕ → Maker Same
-some_brackets n = maker Same (brackets_part n) (brackets-made n)
+unkept-word : (text : List ℕ) → (is_plain_word text || bytes_eq text (codes "void")) ≡ true
+    → is_kept kind.Keyword text ≡ false
+unkept-word text w = elim (or_cases (is_plain_word text) (bytes_eq text (codes "void")) w) [
+  | inl e ↦ plain-unkept text e
+  | inr e ↦ subst (λ word. is_kept kind.Keyword word ≡ false) (sym ((bytes_decides text (codes "void")).0 e)) refl
+]
+
+pub literal-made : (t : Ty) → FormedLiteral t → Makes Same (ty_part t)
+literal-made (Typed (Plain text) n) f = typed-made (Plain text) n (plain-made text (unkept-word text f))
+literal-made (Typed (Named ps) n) f = typed-made (Named ps) n (base-made (Named ps) (bare-last ps f.0, f.1))

@@ -1,8 +1,10 @@
 -- The forms of statements: how each is seen, and which places it keeps.
-use Rattle.std.proofs.Common.{◌≡◌, ◌<◌, Bool, List, ◌∷◌, ◌++◌, Option, Some, None, map, length, ap, ◌∙◌, rules}
+use Rattle.std.proofs.Common.{◌≡◌, ◌<◌, List, ◌∷◌, Option, Some, None, map, length, ap, ◌∙◌, rules}
 use Rattle.std.specs.Prelude.{option_map}
 use Rattle.std.specs.Global.{Vec}
 use Rattle.java_tree.specs.declared.words.Ident.{Ident}
+use Rattle.java_tree.specs.declared.words.Spelled.{Spelled}
+use Rattle.java_tree.specs.declared.methods.ModifierTree.{ModifierTree}
 use Rattle.java_tree.specs.declared.types.TypeTree.{TypeTree}
 use Rattle.java_tree.specs.declared.expressions.Expression.{Expression}
 use Rattle.java_tree.specs.declared.statements.LocalsTree.{LocalsTree}
@@ -16,14 +18,15 @@ use Rattle.java_tree.specs.declared.statements.CatchTree.{CatchTree, roll-CatchT
 use Rattle.java_tree.specs.declared.statements.GroupTree.{GroupTree, roll-GroupTree}
 use Rattle.java_tree.specs.declared.statements.Statement.TheOpen as statement
 use Rattle.java_tree.specs.declared.statements.Statement.TheFolds.{the_lemmas}
-use Rattle.java_tree.specs.KeptPlaces.{Places, Puts, each_puts, maybe_puts, ty_places, expr_places, locals_places}
+use Rattle.java_tree.specs.KeptPlaces.{Marks, Puts, each_marks, modifier_marks, some_onto, name_places, no_places}
+use Rattle.java_tree.specs.KeptPlaces.{behind_name, each_puts, maybe_puts, ty_places, expr_places, locals_places}
 use Rattle.java_tree.specs.KeptPlaces.{start_places, stmt_places, try_places, catch_places, group_places, label_places}
 use Rattle.java_tree.specs.KeptPlaces.{resources_places, catch_parameter_places}
 use Rattle.java_tree.specs.KeptPlaces as places
-use Rattle.java_tree.specs.Trees.{Stmt, Block, Local, Run, If, IfElse, For, ForEach, Labelled, Empty, Pieces}
-use Rattle.java_tree.specs.Trees.{pack_exprs, pack_stmts}
+use Rattle.java_tree.specs.Trees.{Stmt, Block, Local, Run, If, IfElse, For, ForEach, Labelled, LocalClass, Empty}
+use Rattle.java_tree.specs.Trees.{Pieces, pack_exprs, pack_stmts}
 use Rattle.java_tree.specs.Rows.{Try}
-use Rattle.java_tree.specs.View.{ty_of, name_of, expr_of, locals_of, start_of, label_of, resources_of}
+use Rattle.java_tree.specs.View.{modifier_of, ty_of, name_of, expr_of, locals_of, start_of, label_of, resources_of}
 use Rattle.java_tree.specs.View.{catch_parameter_of, Catch, Finally, pack_rows, Group, stmt_of, try_of, catch_of}
 use Rattle.java_tree.specs.View.{group_of}
 use Rattle.java_tree.specs.View as view
@@ -51,7 +54,7 @@ block-is all few =
     view-of (statement.Block (vector all))
     ∙ ap (λ (l : List Statement). Block (pack_stmts (map stmt_of l))) (vector-items all few)
 
-pub block-at : (all : List Statement) → length all < most → (ps : Places)
+pub block-at : (all : List Statement) → length all < most → (ps : Marks)
     → stmt_places (a_block all) ps ≡ each_puts (map stmt_places all) ps
 block-at all few ps =
     ap (λ (g : Puts). g ps) (places-of (statement.Block (vector all)))
@@ -63,7 +66,7 @@ a_local l = roll-Statement (statement.Local l)
 pub local-is : (l : LocalsTree) → stmt_of (a_local l) ≡ Local (locals_of l)
 local-is l = view-of (statement.Local l)
 
-pub local-at : (l : LocalsTree) (ps : Places) → stmt_places (a_local l) ps ≡ locals_places l ps
+pub local-at : (l : LocalsTree) (ps : Marks) → stmt_places (a_local l) ps ≡ locals_places l ps
 local-at l ps = ap (λ (g : Puts). g ps) (places-of (statement.Local l))
 
 abbrev pub a_run : (e : Expression) → Statement
@@ -72,7 +75,7 @@ a_run e = roll-Statement (statement.Expr e)
 pub run-is : (e : Expression) → stmt_of (a_run e) ≡ Run (expr_of e)
 run-is e = view-of (statement.Expr e)
 
-pub run-at : (e : Expression) (ps : Places) → stmt_places (a_run e) ps ≡ expr_places e ps
+pub run-at : (e : Expression) (ps : Marks) → stmt_places (a_run e) ps ≡ expr_places e ps
 run-at e ps = ap (λ (g : Puts). g ps) (places-of (statement.Expr e))
 
 abbrev pub a_one_if : (e : Expression) (s : Statement) → Statement
@@ -81,7 +84,7 @@ a_one_if e s = roll-Statement (statement.If e (boxed s) None)
 pub one_if-is : (e : Expression) (s : Statement) → stmt_of (a_one_if e s) ≡ If (expr_of e) (stmt_of s)
 one_if-is e s = view-of (statement.If e (boxed s) None)
 
-pub one_if-at : (e : Expression) (s : Statement) (ps : Places)
+pub one_if-at : (e : Expression) (s : Statement) (ps : Marks)
     → stmt_places (a_one_if e s) ps ≡ expr_places e (stmt_places s ps)
 one_if-at e s ps = ap (λ (g : Puts). g ps) (places-of (statement.If e (boxed s) None))
 
@@ -92,7 +95,7 @@ pub if_else-is : (e : Expression) (s t : Statement) → stmt_of (a_if_else e s t
     ≡ IfElse (expr_of e) (stmt_of s) (stmt_of t)
 if_else-is e s t = view-of (statement.If e (boxed s) (Some (boxed t)))
 
-pub if_else-at : (e : Expression) (s t : Statement) (ps : Places)
+pub if_else-at : (e : Expression) (s t : Statement) (ps : Marks)
     → stmt_places (a_if_else e s t) ps ≡ expr_places e (stmt_places s (stmt_places t ps))
 if_else-at e s t ps = ap (λ (g : Puts). g ps) (places-of (statement.If e (boxed s) (Some (boxed t))))
 
@@ -107,23 +110,37 @@ for-is i c all s few =
     (stmt_of s)) (vector-items all few)
 
 pub for-at : (i : StartTree) (c : Option Expression) (all : List Expression) (s : Statement) → length all < most
-    → (ps : Places) → stmt_places (a_for i c all s) ps
+    → (ps : Marks) → stmt_places (a_for i c all s) ps
     ≡ start_places i (maybe_puts (option_map expr_places c) (each_puts (map expr_places all) (stmt_places s ps)))
 for-at i c all s few ps =
     ap (λ (g : Puts). g ps) (places-of (statement.For i c (vector all) (boxed s)))
     ∙ ap (λ (l : List Expression). start_places i (maybe_puts (option_map expr_places c) (each_puts
     (map expr_places l) (stmt_places s ps)))) (vector-items all few)
 
-abbrev pub a_for_each : (final : Bool) (t : TypeTree) (x : Ident) (e : Expression) (s : Statement) → Statement
-a_for_each final t x e s = roll-Statement (statement.ForEach final t x e (boxed s))
+abbrev pub a_for_each : (ms : List ModifierTree) (t : TypeTree) (x : Ident) (e : Expression) (s : Statement) → Statement
+a_for_each ms t x e s =
+    roll-Statement (statement.ForEach (record { modifiers = ms; kind = t; name = x }) e (boxed s))
 
-pub for_each-is : (final : Bool) (t : TypeTree) (x : Ident) (e : Expression) (s : Statement)
-    → stmt_of (a_for_each final t x e s) ≡ ForEach final (ty_of t) (name_of x) (expr_of e) (stmt_of s)
-for_each-is final t x e s = view-of (statement.ForEach final t x e (boxed s))
+pub for_each-is : (ms : List ModifierTree) (t : TypeTree) (x : Ident) (e : Expression) (s : Statement)
+    → stmt_of (a_for_each ms t x e s)
+    ≡ ForEach (map modifier_of ms) (ty_of t) (name_of x) (expr_of e) (stmt_of s)
+for_each-is ms t x e s = view-of (statement.ForEach (record { modifiers = ms; kind = t; name = x }) e (boxed s))
 
-pub for_each-at : (final : Bool) (t : TypeTree) (x : Ident) (e : Expression) (s : Statement) (ps : Places)
-    → stmt_places (a_for_each final t x e s) ps ≡ ty_places t ++ (x.place ∷ expr_places e (stmt_places s ps))
-for_each-at final t x e s ps = ap (λ (g : Puts). g ps) (places-of (statement.ForEach final t x e (boxed s)))
+pub for_each-at : (ms : List ModifierTree) (t : TypeTree) (x : Ident) (e : Expression) (s : Statement) (ps : Marks)
+    → stmt_places (a_for_each ms t x e s) ps
+    ≡ each_marks modifier_marks ms (some_onto (ty_places t) (Some x.place ∷ expr_places e (stmt_places s ps)))
+for_each-at ms t x e s ps =
+    ap (λ (g : Puts). g ps) (places-of (statement.ForEach (record { modifiers = ms; kind = t; name = x }) e (boxed s)))
+
+abbrev pub a_local_class : (x : Ident) (ts : List Spelled) → Statement
+a_local_class x ts = roll-Statement (statement.LocalClass x ts)
+
+pub local_class-is : (x : Ident) (ts : List Spelled) → stmt_of (a_local_class x ts) ≡ LocalClass (name_of x) ts
+local_class-is x ts = view-of (statement.LocalClass x ts)
+
+pub local_class-at : (x : Ident) (ts : List Spelled) (ps : Marks) → stmt_places (a_local_class x ts) ps
+    ≡ Some x.place ∷ no_places (behind_name ts) ps
+local_class-at x ts ps = ap (λ (g : Puts). g ps) (places-of (statement.LocalClass x ts))
 
 abbrev pub a_labelled : (x : Ident) (s : Statement) → Statement
 a_labelled x s = roll-Statement (statement.Labelled x (boxed s))
@@ -131,8 +148,8 @@ a_labelled x s = roll-Statement (statement.Labelled x (boxed s))
 pub labelled-is : (x : Ident) (s : Statement) → stmt_of (a_labelled x s) ≡ Labelled (name_of x) (stmt_of s)
 labelled-is x s = view-of (statement.Labelled x (boxed s))
 
-pub labelled-at : (x : Ident) (s : Statement) (ps : Places)
-    → stmt_places (a_labelled x s) ps ≡ x.place ∷ stmt_places s ps
+pub labelled-at : (x : Ident) (s : Statement) (ps : Marks)
+    → stmt_places (a_labelled x s) ps ≡ Some x.place ∷ stmt_places s ps
 labelled-at x s ps = ap (λ (g : Puts). g ps) (places-of (statement.Labelled x (boxed s)))
 
 abbrev pub a_empty : Statement
@@ -141,7 +158,7 @@ a_empty = roll-Statement (statement.Empty)
 pub empty-is : stmt_of a_empty ≡ Empty
 empty-is = view-of (statement.Empty)
 
-pub empty-at : (ps : Places) → stmt_places a_empty ps ≡ ps
+pub empty-at : (ps : Marks) → stmt_places a_empty ps ≡ ps
 empty-at ps = ap (λ (g : Puts). g ps) (places-of (statement.Empty))
 
 -- ---- the parts of `switch` and `try`
@@ -156,7 +173,7 @@ group-is labels all few =
     search (rules, the_lemmas) in
     seen ∙ ap (λ (l : List Statement). (map label_of labels, pack_stmts (map stmt_of l))) (vector-items all few)
 
-pub group-at : (labels : List LabelTree) (all : List Statement) → length all < most → (ps : Places)
+pub group-at : (labels : List LabelTree) (all : List Statement) → length all < most → (ps : Marks)
     → group_places (a_group labels all) ps ≡ each_puts (map label_places labels) (each_puts (map stmt_places all) ps)
 group-at labels all few ps =
     let at : group_places (a_group labels all)
@@ -177,7 +194,7 @@ clause-is p all few =
     seen ∙ ap (λ (l : List Statement). Catch (catch_parameter_of p) (pack_stmts (map stmt_of l)))
     (vector-items all few)
 
-pub clause-at : (p : CatchParameterTree) (all : List Statement) → length all < most → (ps : Places)
+pub clause-at : (p : CatchParameterTree) (all : List Statement) → length all < most → (ps : Marks)
     → catch_places (a_clause p all) ps ≡ catch_parameter_places p (each_puts (map stmt_places all) ps)
 clause-at p all few ps =
     let at : catch_places (a_clause p all)

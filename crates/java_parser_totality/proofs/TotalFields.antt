@@ -14,8 +14,9 @@ use Rattle.java_tree.specs.declared.methods.ModifierTree.{ModifierTree}
 use Rattle.java_tree.specs.declared.methods.ModifierTree.TheVariants as modifier
 use Rattle.java_tree.specs.Trees.{Ty, Init, Modifier, Word, Annotated}
 use Rattle.java_tree.specs.Spelling.{ty_onto, modifiers_onto}
-use Rattle.java_tree.specs.Formed.{Each, has_some, FormedTy}
-use Rattle.java_tree.specs.KeptPlaces.{kept, ty_places, init_places}
+use Rattle.java_tree.specs.FormedModifiers.{Each, has_some}
+use Rattle.java_tree.specs.Formed.{FormedTy}
+use Rattle.java_tree.specs.KeptPlaces.{kept, ty_places, init_places, AreAt}
 use Rattle.java_tree.specs.View.{ty_of, init_of, modifier_of}
 use Rattle.racer_base.specs.declared.limits.TheConstants.{MAX_NESTING}
 use Rattle.java_tree.specs.Nesting.{ty_nesting}
@@ -31,7 +32,6 @@ use Rattle.java_parser_grammar.proofs.Joined.{joined_items}
 use Rattle.java_parser_grammar.proofs.OneDivision.{plain_append}
 use Rattle.java_parser_totality.specs.Totality.{most}
 use Rattle.java_parser_totality.proofs.Parts.{Made, no_tokens}
-use Rattle.java_parser_totality.proofs.MadeTypes.{Same}
 use Rattle.java_parser_totality.proofs.MadeExpressions.{init_part, init-made}
 use Rattle.java_parser_totality.proofs.Deciding.{Decided, decided-as, decided-both, decided-either, decided-true, Split}
 use Rattle.java_parser_totality.proofs.Deciding.{decided-split}
@@ -45,17 +45,17 @@ use Rattle.java_parser_totality.proofs.TotalHeads.{TypeTreeOf, type-tree, last-p
 pub record InitTreeOf (ts : List Token) : Type 0 where
   pub tree : Initialiser
   pub is : IsInit ts (init_of tree)
-  pub places : init_places tree [] ≡ kept ts
+  pub places : AreAt (init_places tree []) (kept ts)
 
 init-tree : (ts : List Token) (i : Init) → length ts < most → IsInitOf (plain_all ts) i → InitTreeOf ts
 init-tree ts i few is = of (init-made i is.formed ts [] few (sym is.spelled)) where
-  of : Made Same (init_part i) ts [] → InitTreeOf ts
+  of : Made AreAt (init_part i) ts [] → InitTreeOf ts
   of m =
       let init : IsInit ts i = record { formed = is.formed; nested = is.nested; spelled = is.spelled } in
       record {
         tree = m.tree;
         is = subst (IsInit ts) (sym m.is) init;
-        places = m.fits [] (sym (ap kept (no_tokens m.behind m.spelled)));
+        places = m.fits [] (subst (AreAt []) (sym (ap kept (no_tokens m.behind m.spelled))) tt);
       }
 
 of-init : (ts : List Token) (i : Init) → IsInit ts i → IsInitOf (plain_all ts) i

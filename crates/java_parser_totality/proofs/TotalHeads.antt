@@ -6,7 +6,8 @@ use Rattle.java_tree.specs.declared.words.Spelled.{Spelled}
 use Rattle.java_tree.specs.declared.types.TypeTree.{TypeTree}
 use Rattle.java_tree.specs.Trees.{Ty, Modifier, Word, Result, NoResult, VoidResult, TypeResult}
 use Rattle.java_tree.specs.Spelling.{modifiers_onto, result_onto, ty_onto}
-use Rattle.java_tree.specs.Formed.{FormedTy, FormedModifier, is_method_modifier}
+use Rattle.java_tree.specs.FormedMethods.{FormedModifier, is_method_modifier}
+use Rattle.java_tree.specs.Formed.{FormedTy}
 use Rattle.java_tree.specs.KeptPlaces.{kept, ty_places}
 use Rattle.java_tree.specs.View.{ty_of}
 use Rattle.java_tree.specs.declared.unit.HeadResult.{HeadResult}

@@ -9,7 +9,8 @@ use Rattle.java_lexer.specs.declared.token.Token.{Token}
 use Rattle.java_tree.specs.declared.methods.MethodTree.{MethodTree}
 use Rattle.java_tree.specs.Trees.{Result, NoResult, VoidResult, TypeResult, Method}
 use Rattle.java_tree.specs.KeptPlaces.{kept}
-use Rattle.java_tree.specs.MethodPlaces.{method_marks, AreAt}
+use Rattle.java_tree.specs.KeptPlaces.{AreAt}
+use Rattle.java_tree.specs.MethodPlaces.{method_marks}
 use Rattle.java_tree.specs.View.{method_of}
 use Rattle.java_parser_grammar.specs.JavaReaders.{method_readers}
 use Rattle.java_parser_grammar.specs.MethodReading.{method_at}

@@ -11,7 +11,7 @@ use Rattle.java_lexer.specs.declared.token.TokenKind.TheVariants as kind
 use Rattle.java_tree.specs.Formed.{is_plain_word}
 use Rattle.java_tree.specs.KeptPlaces.{Places, is_kept, place_onto, kept}
 use Rattle.java_tree.proofs.KeptWords.{plain-unkept}
-use Rattle.java_parser_grammar.specs.Taking.{is_keyword_kind, is_keyword}
+use Rattle.java_tree.specs.Brackets.{is_keyword_kind, is_keyword}
 use Rattle.java_parser_types.specs.Tokens.{spelled}
 
 -- what is kept behind a keyword, by what is kept of the keyword

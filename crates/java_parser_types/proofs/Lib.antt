@@ -6,3 +6,8 @@ pub mod KeptTokens
 pub mod PutPlaces
 pub mod ReadParts
 pub mod LastCalls
+pub mod LedMarks
+pub mod BracketLoops
+pub mod SignLoops
+pub mod ExactTypes
+mod AngleLoop

@@ -1,6 +1,8 @@
 -- The nesting of trees with one more at the end.
 use Rattle.std.proofs.Common.{◌≡◌, ◌++◌, ◌∷◌, [], List, max, arith}
+use Rattle.std.proofs.Common.{ℕ}
 use Rattle.java_tree.specs.Trees.{Part, Argument, Expr, Init, pack_parts, pack_arguments, pack_exprs, pack_inits}
+use Rattle.java_tree.specs.Nesting.{most_over}
 use Rattle.java_tree.specs.Nesting.{part_nesting, parts_nesting, argument_nesting, arguments_nesting, expr_nesting}
 use Rattle.java_tree.specs.Nesting.{exprs_nesting, init_nesting, inits_nesting}
 
@@ -24,3 +26,8 @@ pub inits_nesting_push : (ps : List Init) (p : Init) → inits_nesting (pack_ini
     (inits_nesting (pack_inits ps)) (init_nesting p)
 inits_nesting_push [] p = omega arith
 inits_nesting_push (q ∷ ps) p = omega (arith, inits_nesting_push ps p)
+
+pub most_over_push : {A : Type 0} (nesting : A → ℕ) (xs : List A) (x : A) → most_over nesting (xs ++ x ∷ []) ≡ max
+    (most_over nesting xs) (nesting x)
+most_over_push nesting [] x = omega arith
+most_over_push nesting (y ∷ ys) x = omega (arith, most_over_push nesting ys x)

@@ -1,6 +1,7 @@
 -- Places of items with one more at the end.
 use Rattle.std.proofs.Common.{◌≡◌, List, [], ◌∷◌, ◌++◌, map, refl, sym, ap, ◌∙◌, append_assoc}
-use Rattle.java_tree.specs.KeptPlaces.{Places, Puts, all_places, each_puts}
+use Rattle.java_tree.specs.KeptPlaces.{Places, Marks, Puts, all_places, each_puts}
+use Rattle.java_parser_types.specs.LedPlaces.{Leads}
 
 module _ {A : Type 0} (places : A → Places) where
   pub all_push : (xs : List A) (x : A) (rest : Places) → all_places (map places (xs ++ x ∷ [])) ++ rest
@@ -17,13 +18,15 @@ module _ {A : Type 0} (places : A → Places) where
   one_more xs x here rest total read so_far =
       all_push xs x rest ∙ (ap (λ (ps : Places). all_places (map places xs) ++ ps) read ∙ so_far)
 
--- the same of places that are put before others
+-- the same of marks that are put before others
 module _ {A : Type 0} (puts : A → Puts) where
-  pub each_push : (xs : List A) (x : A) (rest : Places) → each_puts (map puts (xs ++ x ∷ [])) rest ≡ each_puts
+  pub each_push : (xs : List A) (x : A) (rest : Marks) → each_puts (map puts (xs ++ x ∷ [])) rest ≡ each_puts
       (map puts xs) (puts x rest)
   each_push [] x rest = refl
   each_push (y ∷ ys) x rest = ap (puts y) (each_push ys x rest)
 
-  pub one_put : (xs : List A) (x : A) (here rest total : Places) → puts x rest ≡ here
-      → each_puts (map puts xs) here ≡ total → each_puts (map puts (xs ++ x ∷ [])) rest ≡ total
-  one_put xs x here rest total read so_far = each_push xs x rest ∙ (ap (each_puts (map puts xs)) read ∙ so_far)
+  -- one more item is read
+  pub one_put : (xs : List A) (x : A) (start here rest : Places) → Leads (puts x) here rest
+      → Leads (each_puts (map puts xs)) start here → Leads (each_puts (map puts (xs ++ x ∷ []))) start rest
+  one_put xs x start here rest read so_far =
+      λ marks at. rw (each_push xs x marks) (so_far (puts x marks) (read marks at))

@@ -5,3 +5,6 @@ pub mod Endings
 pub mod PointBehind
 pub mod Whole
 pub mod Placed
+pub mod LedPlaces
+pub mod AwaitedBrackets
+pub mod ExactTypes

@@ -1,11 +1,15 @@
 //! Types of Java, read from their tokens.
 #![tactic(auto)]
 
+pub mod angles;
+pub mod brackets;
 pub mod error;
 pub mod laws;
 pub mod look;
 pub mod made_types;
 pub mod nested;
+pub mod tested_types;
+pub mod type_lists;
 pub mod types;
 mod whole;
 

@@ -6,9 +6,10 @@ ghost use Rattle.java_lexer.specs.declared.token.TokenKind.TheVariants as kind;
 ghost use Rattle.java_tree.specs.KeptPlaces.{is_kept, kept};
 ghost use Rattle.java_tree.specs.Brackets.{is_sign};
 ghost use Rattle.java_tree.specs.Formed.{is_plain_word};
-ghost use Rattle.java_parser_grammar.specs.Taking.{is_keyword, is_name_kind, after_sign, after_keyword, after_name};
+ghost use Rattle.java_tree.specs.Brackets.{is_keyword, is_name_kind};
+ghost use Rattle.java_parser_grammar.specs.Taking.{after_sign, after_keyword, after_name};
 ghost use Rattle.java_parser_grammar.specs.Taking.{after_angle, after_glued};
-ghost use Rattle.java_parser_grammar.specs.TypeReading.{after_plain, after_brackets, brackets_at};
+ghost use Rattle.java_parser_grammar.specs.TypeReading.{after_plain, after_brackets, brackets_at, is_plain_type};
 ghost use Rattle.java_parser_types.specs.Tokens.{spelled};
 ghost use Rattle.java_parser_types.specs.ReadAnswer.{Gives};
 
@@ -60,6 +61,15 @@ pub fn is_name(token: &Token) -> bool
     ensures { result ≡ (is_name_kind token.now.kind && not token.now.glued) }
 {
     matches!(token.kind, TokenKind::Name) && !token.glued
+}
+
+/// Whether the token is the word of a primitive type (JLS 4.2).
+pub fn is_plain_type(token: &Token) -> bool
+    ensures { result ≡ is_plain_type (spelled token.now) }
+{
+    matches!(token.kind, TokenKind::Keyword)
+        && !token.glued
+        && is_plain_word(token.text.as_str().as_bytes())
 }
 
 /// The tokens behind this sign, where it stands in front and is glued to nothing.

@@ -1,13 +1,11 @@
-//! Reading types without type arguments (JLS 15.20.2), and what stands behind `new` (JLS 15.9, 15.10).
+//! Reading what stands behind `new` (JLS 15.9, 15.10).
 ghost use Rattle.std.specs.Prelude.{◌≡◌, ◌<◌, ◌≤◌, ◌^◌, suc, Some, None, [], ◌∷◌, length, map, IfOk, IfSome};
 ghost use Rattle.std.specs.Prelude.{◌++◌, MatchOption};
-ghost use Rattle.java_tree.specs.KeptPlaces.{kept, ty_places, base_places, part_places};
-ghost use Rattle.java_tree.specs.Nesting.{parts_nesting};
+ghost use Rattle.java_tree.specs.KeptPlaces.{kept, base_places, part_places};
 ghost use Rattle.java_tree.specs.Trees.{Bare, Generic, Angled, no_argument, pack_parts};
-ghost use Rattle.java_tree.specs.View.{ty_of, base_of, part_of};
-ghost use Rattle.java_parser_grammar.specs.TypeReading.{points, is_diamond, have_diamond, has_diamond, bare_part_at};
-ghost use Rattle.java_parser_grammar.specs.TypeReading.{base_with, bare_ty_at, made_part_with, made_parts_with};
-ghost use Rattle.java_parser_grammar.specs.TypeReading.{made_base_with, made_base_at, ty_at};
+ghost use Rattle.java_tree.specs.View.{base_of, part_of};
+ghost use Rattle.java_parser_grammar.specs.TypeReading.{is_diamond, have_diamond, has_diamond, made_part_with};
+ghost use Rattle.java_parser_grammar.specs.TypeReading.{made_parts_with, made_base_with, made_base_at, ty_at};
 ghost use Rattle.java_parser_types.specs.PointBehind.{point_behind};
 ghost use Rattle.java_parser_types.specs.Tokens.{spelled};
 ghost use Rattle.java_parser_types.specs.Finishing.{finished};
@@ -16,14 +14,14 @@ ghost use Rattle.java_parser_types.specs.ReadAnswer.{Gives};
 
 use super::error::ReadError;
 use super::look::{after_angle, after_plain, after_sign, name};
-use super::nested::{NestedBase, NestedPart, NestedType};
-use super::types::{angled, arrayed, named_base, plain};
+use super::nested::{NestedBase, NestedPart};
+use super::types::{angled, named_base, plain};
 use java_lexer::Token;
 use java_tree::{BaseType, Ident, TypeArguments, TypePart};
 use std::alloc::Global;
 
 /// A name as a part.
-fn bare(name: Ident) -> NestedPart
+pub fn bare(name: Ident) -> NestedPart
     ensures gives { part_of result.tree ≡ Bare name.text }
     ensures places { part_places result.tree ≡ name.place ∷ [] }
     ensures small { result.nesting ≡ 0 }
@@ -33,75 +31,6 @@ fn bare(name: Ident) -> NestedPart
         arguments: None,
     };
     NestedPart { tree, nesting: 0 }
-}
-
-fn bare_part(alloc: Global, tokens: &[Token]) -> Result<(NestedPart, &[Token]), ReadError>
-    ensures gives { Gives (λ x. (part_of x.0.tree, map spelled x.1.now)) result
-        (bare_part_at (map spelled tokens.now)) }
-    ensures places { IfOk result (λ x. part_places x.0.tree ++ kept x.1.now ≡ kept tokens.now) }
-    ensures small { IfOk result (λ x. x.0.nesting ≡ 0) }
-    ensures shorter { IfOk result (λ x. length x.1.now < length tokens.now) }
-{
-    let (name, rest) = name(alloc, tokens)?;
-    Ok((bare(name), rest))
-}
-
-/// The type of this part and of others, each behind a point.
-fn bare_parts(
-    alloc: Global,
-    first: NestedPart,
-    tokens: &[Token],
-) -> Result<(NestedBase, &[Token]), ReadError>
-    requires few { length tokens.now < 2 ^ 32 }
-    requires first { first.nesting ≡ 0 }
-    ensures gives { Gives (λ x. (base_of x.0.tree, map spelled x.1.now)) result (finished named_end
-        (part_of first.tree ∷ []) (points bare_part_at (length (map spelled tokens.now)) (map spelled tokens.now))) }
-    ensures places { IfOk result (λ x. base_places x.0.tree ++ kept x.1.now ≡ part_places first.tree
-        ++ kept tokens.now) }
-    ensures small { IfOk result (λ x. x.0.nesting ≡ 0) }
-    ensures shorter { IfOk result (λ x. length x.1.now ≤ length tokens.now) }
-{
-    let mut parts = Vec::new(alloc);
-    parts.push(first.tree)?;
-    let mut rest = tokens;
-    for _ in 0..tokens.len() {
-        let Some(after) = after_sign(rest, ".") else {
-            return Ok(named_base(parts, 0, rest));
-        };
-        let (next, after) = bare_part(alloc, after)?;
-        parts.push(next.tree)?;
-        rest = after;
-    }
-    Ok(named_base(parts, 0, rest))
-}
-
-#[tactic(auto, unfolding(java_parser_grammar::specs::TypeReading::base_with))]
-fn bare_base(alloc: Global, tokens: &[Token]) -> Result<(NestedBase, &[Token]), ReadError>
-    requires { length tokens.now < 2 ^ 32 }
-    ensures gives { Gives (λ x. (base_of x.0.tree, map spelled x.1.now)) result (base_with bare_part_at
-        (map spelled tokens.now)) }
-    ensures places { IfOk result (λ x. base_places x.0.tree ++ kept x.1.now ≡ kept tokens.now) }
-    ensures small { IfOk result (λ x. x.0.nesting ≡ 0) }
-    ensures shorter { IfOk result (λ x. length x.1.now < length tokens.now) }
-{
-    if let Some((word, rest)) = after_plain(tokens) {
-        return Ok((plain(alloc, word)?, rest));
-    }
-    let (first, rest) = bare_part(alloc, tokens)?;
-    bare_parts(alloc, first, rest)
-}
-
-/// A type without type arguments (JLS 15.20.2).
-#[tactic(auto, unfolding(java_parser_grammar::specs::TypeReading::bare_ty_at))]
-pub fn read_bare_type(alloc: Global, tokens: &[Token]) -> Result<(NestedType, &[Token]), ReadError>
-    requires { length tokens.now < 2 ^ 32 }
-    ensures gives { Gives (λ x. (ty_of x.0.tree, map spelled x.1.now)) result (bare_ty_at (map spelled tokens.now)) }
-    ensures places { IfOk result (λ x. ty_places x.0.tree ++ kept x.1.now ≡ kept tokens.now) }
-    ensures small { IfOk result (λ x. x.0.nesting ≡ 1) }
-    ensures shorter { IfOk result (λ x. length x.1.now < length tokens.now) }
-{
-    let (base, rest) = bare_base(alloc, tokens)?;
-    Ok(arrayed(base, rest))
 }
 
 fn is_diamond(part: &TypePart) -> bool

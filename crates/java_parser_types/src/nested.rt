@@ -1,19 +1,34 @@
 //! Trees with their nesting.
 ghost use Rattle.std.specs.Prelude.{◌≡◌, map};
-ghost use Rattle.java_tree.specs.Nesting.{ty_nesting, base_nesting, part_nesting, angled_nesting, argument_nesting};
-ghost use Rattle.java_tree.specs.Nesting.{expr_nesting, exprs_nesting, array_nesting, init_nesting};
-ghost use Rattle.java_tree.specs.Trees.{pack_exprs};
-ghost use Rattle.java_tree.specs.View.{ty_of, base_of, part_of, angled_of, argument_of, expr_of, array_of, init_of};
+ghost use Rattle.java_tree.specs.Nesting.{most_over, ty_nesting, base_nesting, part_nesting, angled_nesting};
+ghost use Rattle.java_tree.specs.Nesting.{argument_nesting, maybe_angled_nesting};
+ghost use Rattle.java_tree.specs.View.{ty_of, base_of, part_of, angled_of, argument_of, types_of};
 
-use java_tree::{
-    ArrayTree, BaseType, Expression, Initialiser, TypeArgument, TypeArguments, TypePart, TypeTree,
-};
+use java_tree::{BaseType, TypeArgument, TypeArguments, TypePart, TypeTree};
+use racer_base::Items;
 
 #[derive(Drop)]
 pub struct NestedType {
     pub tree: TypeTree,
     pub nesting: u32,
     ghost measured: { nesting ≡ ty_nesting (ty_of tree) },
+}
+
+#[derive(Drop)]
+pub struct NestedTypes {
+    pub trees: Vec<TypeTree>,
+    pub nesting: u32,
+    ghost measured: { nesting ≡ most_over ty_nesting (map ty_of trees.items) },
+}
+
+/// The types before the name of a method that is called, none where there are no brackets, and whether the `>` behind
+/// them is glued to the `>` before it (JLS 15.12, 15.13).
+#[derive(Drop)]
+pub struct NestedExact {
+    pub trees: Items<TypeTree>,
+    pub glued: bool,
+    pub nesting: u32,
+    ghost measured: { nesting ≡ maybe_angled_nesting (types_of trees glued) },
 }
 
 #[derive(Drop)]

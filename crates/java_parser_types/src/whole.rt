@@ -3,7 +3,8 @@ ghost use Rattle.std.specs.Prelude.{◌≡◌, ◌<◌, ◌≤◌, ◌^◌, suc,
 ghost use Rattle.java_parser_types.specs.declared.error.ReadError.TheVariants.{Unformed};
 ghost use Rattle.java_tree.specs.Trees.{Ty, Init, Method};
 ghost use Rattle.java_tree.specs.Spelling.{ty_onto, init_onto, spelling};
-ghost use Rattle.java_tree.specs.Formed.{FormedTy, FormedInit, FormedMethod};
+ghost use Rattle.java_tree.specs.FormedMethods.{FormedMethod};
+ghost use Rattle.java_tree.specs.Formed.{FormedTy, FormedInit};
 ghost use Rattle.java_tree.specs.Nesting.{ty_nesting, init_nesting, method_nesting};
 ghost use Rattle.java_tree.specs.KeptPlaces.{kept, ty_places};
 ghost use Rattle.java_tree.specs.View.{ty_of, init_of, method_of};

@@ -12,11 +12,11 @@ use Rattle.java_resolver_parts.specs.Numbers.{Key, key_eq, Named, number_at, or_
 use Rattle.java_resolver.specs.Indexes.{AddsElement, FindsFirsts, class_at}
 use Rattle.racer_base.proofs.Lists.{option_or-none}
 
-map_or : (o p : Option ℕ) → option_map suc (option_or o p) ≡ option_or (option_map suc o) (option_map suc p)
+pub map_or : (o p : Option ℕ) → option_map suc (option_or o p) ≡ option_or (option_map suc o) (option_map suc p)
 map_or None p = refl
 map_or (Some n) p = refl
 
-map_if : (b : Bool) (n : ℕ) → option_map suc (if b then Some n else None) ≡ (if b then Some (suc n) else None)
+pub map_if : (b : Bool) (n : ℕ) → option_map suc (if b then Some n else None) ≡ (if b then Some (suc n) else None)
 map_if true n = refl
 map_if false n = refl
 
@@ -83,7 +83,7 @@ first_that-within test (x ∷ xs) n e =
       | false ↦ λ is. shifted_within (length xs) (first_that test xs) n (first_that-within test xs) is
     ] e
 
-length_taken : {A : Type 0} (xs : List A) (i : ℕ) → i < length xs → length (take i xs) ≡ i
+pub length_taken : {A : Type 0} (xs : List A) (i : ℕ) → i < length xs → length (take i xs) ≡ i
 length_taken xs i within = let is : length (take i xs) ≡ min i (length xs) = length-take i xs in omega arith
 
 -- the next element, whose number is added where it belongs

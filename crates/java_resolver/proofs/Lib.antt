@@ -6,3 +6,5 @@ mod ByClass
 mod Loops
 mod Searches
 mod Behind
+mod SecondOnes
+mod HiddenNames

@@ -24,7 +24,8 @@ use Rattle.java_resolver.specs.declared.infos.ClassInfo.{ClassInfo}
 use Rattle.java_resolver.specs.declared.infos.FieldInfo.{FieldInfo}
 use Rattle.java_resolver.specs.declared.infos.MethodInfo.{MethodInfo}
 use Rattle.java_resolver.specs.Words.{is_annotation_named, has_word, is_annotated}
-use Rattle.java_resolver.specs.TypeKinds.{kind_of}
+use Rattle.java_resolver.specs.Hidden.{hidden_in}
+use Rattle.java_resolver.specs.TypeKinds.{kind_of, kind_with}
 use Rattle.java_resolver_parts.specs.LockTypes.{is_other, is_lock_type}
 
 -- ---- classes
@@ -71,7 +72,7 @@ by_class f n (c ∷ cs) = f (record { 0 = n }) c ++ by_class f (suc n) cs
 -- whether fields are lock fields: final ones of a lock type that no class of the folder has the name of
 abbrev pub is_lock_field : List (List ℕ) → FieldTree → Bool
 is_lock_field classes f =
-    has_word (codes "final") f.modifiers && is_other (kind_of classes (ty_of f.kind)) && is_lock_type (ty_of f.kind)
+    has_word (codes "final") f.modifiers && is_other (kind_of [] classes (ty_of f.kind)) && is_lock_type (ty_of f.kind)
 
 abbrev pub field_info : List (List ℕ) → ClassId → FieldTree → FieldVariable → FieldInfo
 field_info classes c f v =
@@ -79,7 +80,7 @@ field_info classes c f v =
       class = c;
       name = v.name.text;
       place = v.name.place;
-      kind = kind_of classes (ty_of f.kind);
+      kind = kind_of [] classes (ty_of f.kind);
       is_static = has_word (codes "static") f.modifiers;
       is_final = has_word (codes "final") f.modifiers;
       is_volatile = has_word (codes "volatile") f.modifiers;
@@ -101,10 +102,11 @@ fields_of units = by_class (class_fields (names_of units)) 0 (trees_of units)
 abbrev pub constructor_name : List ℕ
 constructor_name = codes "<new>"
 
-abbrev pub result_kind : List (List ℕ) → ClassId → ResultTree → Kind
-result_kind classes c result.Constructor = kind.Declared c
-result_kind classes c result.Void = kind.Plain
-result_kind classes c (result.Of t) = kind_of classes (ty_of t)
+-- where these names mean no class, and so many `[ ]` stand behind the parameters
+abbrev pub result_kind : (hidden classes : List (List ℕ)) → ClassId → ResultTree → (arrays : ℕ) → Kind
+result_kind hidden classes c result.Constructor arrays = kind.Declared c
+result_kind hidden classes c result.Void arrays = kind.Plain
+result_kind hidden classes c (result.Of t) arrays = kind_with (kind_of hidden classes (ty_of t)) arrays
 
 abbrev pub is_constructor : ResultTree → Bool
 is_constructor result.Constructor = true
@@ -113,8 +115,21 @@ is_constructor _ = false
 abbrev pub method_name : MethodTree → List ℕ
 method_name m = if is_constructor m.result then constructor_name else m.name.text
 
-abbrev pub kinds_of : List (List ℕ) → List ParameterTree → List Kind
-kinds_of classes parameters = map (λ (p : ParameterTree). kind_of classes (ty_of p.kind)) parameters
+-- how many `[ ]` a parameter has besides those of its type, `...` being one of them
+abbrev pub further_arrays : ParameterTree → ℕ
+further_arrays p = if p.any_number then suc p.arrays else p.arrays
+
+abbrev pub parameter_kind : (hidden classes : List (List ℕ)) → ParameterTree → Kind
+parameter_kind hidden classes p = kind_with (kind_of hidden classes (ty_of p.kind)) (further_arrays p)
+
+abbrev pub kinds_of : (hidden classes : List (List ℕ)) → List ParameterTree → List Kind
+kinds_of hidden classes parameters = map (parameter_kind hidden classes) parameters
+
+-- whether the last of these takes any number of arguments
+abbrev pub takes_any_number : List ParameterTree → Bool
+takes_any_number [] = false
+takes_any_number (p ∷ []) = p.any_number
+takes_any_number (p ∷ q ∷ ps) = takes_any_number (q ∷ ps)
 
 -- a constructor is an instance method whatever its modifiers
 abbrev pub method_info : List (List ℕ) → ClassId → MethodTree → MethodInfo
@@ -123,8 +138,10 @@ method_info classes c m =
       class = c;
       name = method_name m;
       place = m.name.place;
-      parameters = kinds_of classes m.parameters;
-      result = result_kind classes c m.result;
+      parameters = kinds_of (hidden_in m) classes m.parameters;
+      any_number = takes_any_number m.parameters;
+      result = result_kind (hidden_in m) classes c m.result m.arrays;
+      hidden = hidden_in m;
       is_static = has_word (codes "static") m.modifiers && not (is_constructor m.result);
       is_private = has_word (codes "private") m.modifiers;
       is_constructor = is_constructor m.result;
@@ -134,7 +151,7 @@ method_info classes c m =
 
 abbrev pub head_kind : List (List ℕ) → ClassId → HeadResult → Kind
 head_kind classes c head.Void = kind.Plain
-head_kind classes c (head.Formed t) = kind_of classes (ty_of t)
+head_kind classes c (head.Formed t) = kind_of [] classes (ty_of t)
 head_kind classes c head.Constructor = kind.Declared c
 head_kind classes c head.Unknown = kind.Other
 
@@ -150,7 +167,9 @@ head_info classes c h =
       name = h.name;
       place = h.place;
       parameters = replicate h.parameters kind.Other;
+      any_number = false;
       result = head_kind classes c h.result;
+      hidden = [];
       is_static = h.is_static && not (is_constructor_head h.result);
       is_private = false;
       is_constructor = is_constructor_head h.result;
@@ -166,7 +185,9 @@ default_constructor c tree =
       name = constructor_name;
       place = tree.place;
       parameters = [];
+      any_number = false;
       result = kind.Declared c;
+      hidden = [];
       is_static = false;
       is_private = false;
       is_constructor = true;

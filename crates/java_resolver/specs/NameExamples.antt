@@ -1,5 +1,5 @@
 -- No public contract rests on this: small classes, fields, methods and scopes for worked rows.
-use Rattle.std.specs.Prelude.{ℕ, Bool, true, false, List, [], codes, length, replicate, map}
+use Rattle.std.specs.Prelude.{ℕ, Bool, true, false, List, [], None, codes, length, replicate, map}
 use Rattle.racer_base.specs.declared.ids.ClassId.{ClassId}
 use Rattle.racer_base.specs.declared.ids.Kind.TheVariants as kind
 use Rattle.racer_base.specs.declared.ids.Place.{Place}
@@ -73,9 +73,11 @@ abbrev counted_tree : List ModifierTree → ResultTree → List ℕ → List Par
 counted_tree modifiers result name parameters count =
     record {
       modifiers = modifiers;
+      type_parameters = None;
       result = result;
       name = ident name 9;
       parameters = parameters;
+      arrays = 0;
       throws = [];
       body = [];
       has_synchronized = has_word (codes "synchronized") modifiers;
@@ -89,7 +91,8 @@ method_tree modifiers result name parameters =
     (length (spelling (method_of (counted_tree modifiers result name parameters 0))))
 
 abbrev pub parameter : TypeTree → ParameterTree
-parameter kind = record { is_final = false; annotations = []; kind = kind; name = ident (codes "p") 12 }
+parameter kind =
+    record { modifiers = []; kind = kind; any_number = false; name = ident (codes "p") 12; arrays = 0 }
 
 -- a method that no tree spells, with or without the word `synchronized` in it
 abbrev pub outside : List ℕ → ℕ → HeadResult → Bool → Member
@@ -131,18 +134,24 @@ method c name column parameters =
       name = name;
       place = at column;
       parameters = replicate parameters kind.Plain;
+      any_number = false;
       result = kind.Plain;
       is_static = false;
       is_private = false;
       is_constructor = false;
       main = false;
       not_thread_safe = false;
+      hidden = [];
     }
+
+-- whose last parameter takes any number of arguments
+abbrev pub method_with_any : ℕ → List ℕ → ℕ → ℕ → MethodInfo
+method_with_any c name column parameters = record (method c name column parameters) { any_number = true }
 
 -- ---- scopes
 
 abbrev pub variable : List ℕ → ℕ → ScopeVariable
-variable name n = record { name = name; id = record { 0 = n }; kind = kind.Plain }
+variable name n = record { name = name; id = record { 0 = n }; kind = kind.Plain; is_lock = false }
 
 abbrev pub scope : ℕ → Bool → List ScopeVariable → Scope
-scope c is_static variables = record { class = class c; is_static = is_static; variables = variables }
+scope c is_static variables = record { class = class c; is_static = is_static; hidden = []; variables = variables }

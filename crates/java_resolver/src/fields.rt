@@ -121,7 +121,7 @@ fn is_lock_field(classes: &Classes, field: &FieldTree) -> bool
     ensures { result ≡ is_lock_field (class_names classes.now) field.now }
 {
     let is_final = has_word(field.modifiers.as_slice(), "final");
-    is_lock(is_final, kind_of(classes, &field.kind), &field.kind)
+    is_lock(is_final, kind_of(None, classes, &field.kind), &field.kind)
 }
 
 /// What is known of a field.
@@ -138,7 +138,7 @@ fn field_info(
         class,
         name: variable.name.text.clone()?,
         place: variable.name.place,
-        kind: kind_of(classes, &field.kind),
+        kind: kind_of(None, classes, &field.kind),
         is_static: has_word(modifiers, "static"),
         is_final: has_word(modifiers, "final"),
         is_volatile: has_word(modifiers, "volatile"),

@@ -1,4 +1,5 @@
 //! What is known of classes, fields and methods by their names.
+use crate::hidden::Hidden;
 use racer_base::{ClassId, Items, Kind, Place, Text};
 
 /// A class, with the place of its name (JLS 8.1).
@@ -31,6 +32,8 @@ pub struct MethodInfo {
     pub name: Text,
     pub place: Place,
     pub parameters: Items<Kind>,
+    /// Whether the last parameter takes any number of arguments.
+    pub any_number: bool,
     /// `void` counts as `Plain`.
     pub result: Kind,
     pub is_static: bool,
@@ -40,4 +43,6 @@ pub struct MethodInfo {
     pub main: bool,
     /// Whether it is annotated as not safe for threads.
     pub not_thread_safe: bool,
+    /// The names that mean no class of the folder in it.
+    pub hidden: Hidden,
 }

@@ -3,18 +3,22 @@ ghost use Rattle.std.specs.Prelude.{◌≡◌, ◌++◌, length, replicate, IfOk
 ghost use Rattle.std.specs.List.{list_any, flat_map};
 ghost use Rattle.racer_base.specs.declared.ids.Kind.TheVariants.{Other};
 ghost use Rattle.java_resolver.specs.Declarations.{class_names, kinds_of, method_name, method_info, head_info};
+ghost use Rattle.java_resolver.specs.Declarations.{takes_any_number};
 ghost use Rattle.java_resolver.specs.Declarations.{default_constructor, default_constructors, constructor_name};
 ghost use Rattle.java_resolver.specs.Declarations.{is_constructor, is_constructor_head, member_is_constructor};
 ghost use Rattle.java_resolver.specs.Declarations.{member_methods, class_methods};
-ghost use Rattle.java_resolver.specs.Meanings.{found};
+ghost use Rattle.java_resolver.specs.Meanings.{exactly_found, found, found_with_any, is_called_with_any};
+ghost use Rattle.java_resolver.specs.Firsts.{only_that};
 ghost use Rattle.java_resolver.specs.Indexes.{FindsFirsts, method_at, methods_behind};
 ghost use Rattle.java_resolver.specs.Refusals.{too_many};
 ghost use Rattle.java_resolver.specs.Faults.{IsFault};
 
 use crate::classes::Classes;
 use crate::fault::ResolveFault;
+use crate::hidden::{Hidden, hidden_in};
 use crate::infos::MethodInfo;
-use crate::kinds::{head_kind, kind_of, result_kind};
+use crate::kinds::{head_kind, parameter_kind, result_kind};
+use crate::with_any::{WithAny, is_enough, with_any_numbers};
 use crate::words::{has_word, is_annotated};
 use java_resolver_parts::{Named, add_number, no_numbers, number_at, number_of};
 use java_tree::{
@@ -29,18 +33,19 @@ use std::marker::Model;
 pub struct Methods {
     list: Vec<MethodInfo>,
     numbers: Named,
+    with_any: WithAny,
 }
 
 impl Model for Methods {
     ghost use Rattle.std.specs.Prelude.{List};
     ghost use Rattle.java_resolver.specs.declared.infos.MethodInfo.{MethodInfo};
-    ghost use Rattle.java_resolver.specs.Indexes.{FindsFirsts, method_at};
+    ghost use Rattle.java_resolver.specs.Indexes.{AreMethodNumbers};
 
     ghost Value = { List MethodInfo };
 
     ghost view = { λ methods. methods.list.items };
 
-    ghost invariant = { λ methods. FindsFirsts method_at methods.numbers methods.list.items };
+    ghost invariant = { λ methods. AreMethodNumbers methods.numbers methods.with_any methods.list.items };
 }
 
 /// The numbers of methods by their names, classes and numbers of parameters, of two the first.
@@ -64,27 +69,67 @@ impl Methods {
     }
 
     /// The method of a class by a name and a number of parameters, of two the first.
-    pub fn named(&self, class: ClassId, name: &str, count: u32) -> Option<MethodId>
-        ensures { result ≡ found self.now class name.now count }
+    pub fn exactly_named(&self, class: ClassId, name: &str, count: u32) -> Option<MethodId>
+        ensures { result ≡ exactly_found self.now class name.now count }
     {
         let number = number_at(&self.numbers, name, (class.0, count))?;
         Some(MethodId(number))
+    }
+
+    /// The only method of a class and a name whose last parameter takes any number of arguments.
+    fn only_with_any(&self, class: ClassId, name: &str) -> Option<u32>
+        ensures { result ≡ only_that (is_called_with_any class name.now) self.now }
+    {
+        self.with_any.only(class, name)
+    }
+
+    /// The same where so many arguments are enough for it.
+    fn named_with_any(&self, class: ClassId, name: &str, count: u32) -> Option<MethodId>
+        ensures { result ≡ found_with_any self.now class name.now count }
+    {
+        let number = self.only_with_any(class, name)?;
+        if is_enough(self.list.as_slice(), count, number) {
+            return Some(MethodId(number));
+        }
+        None
+    }
+
+    /// The method of a class that a call of a name with so many arguments means.
+    pub fn named(&self, class: ClassId, name: &str, count: u32) -> Option<MethodId>
+        ensures { result ≡ found self.now class name.now count }
+    {
+        match self.exactly_named(class, name, count) {
+            Some(m) => Some(m),
+            None => self.named_with_any(class, name, count),
+        }
     }
 }
 
 /// The kinds of parameters.
 fn parameter_kinds(
     alloc: Global,
+    hidden: &Hidden,
     classes: &Classes,
     parameters: &[ParameterTree],
 ) -> Result<Items<Kind>, Memory>
-    ensures { IfOk result (λ kinds. kinds ≡ kinds_of (class_names classes.now) parameters.now) }
+    ensures { IfOk result (λ kinds. kinds ≡ kinds_of hidden.now (class_names classes.now) parameters.now) }
 {
     let mut kinds = Items::new(alloc);
     for parameter in parameters {
-        kinds.push(kind_of(classes, &parameter.kind))?;
+        kinds.push(parameter_kind(Some(hidden), classes, parameter))?;
     }
     Ok(kinds)
+}
+
+/// Whether the last of these takes any number of arguments.
+#[tactic(auto, using(crate::proofs::HiddenNames::takes_last))]
+fn takes_any_number(parameters: &[ParameterTree]) -> bool
+    ensures { result ≡ takes_any_number parameters.now }
+{
+    match parameters {
+        [] => false,
+        [.., last] => last.any_number,
+    }
 }
 
 /// So many parameters of no known kind.
@@ -144,18 +189,21 @@ fn method_info(
 {
     let modifiers = method.modifiers.as_slice();
     let constructor = is_constructor(&method.result);
-    let parameters = parameter_kinds(alloc, classes, method.parameters.as_slice())?;
+    let hidden = hidden_in(alloc, method)?;
+    let parameters = method.parameters.as_slice();
     Ok(MethodInfo {
         class,
         name: name_of(alloc, method)?,
         place: method.name.place,
-        parameters,
-        result: result_kind(classes, class, &method.result),
+        parameters: parameter_kinds(alloc, &hidden, classes, parameters)?,
+        any_number: takes_any_number(parameters),
+        result: result_kind(Some(&hidden), classes, class, &method.result, method.arrays),
         is_static: has_word(modifiers, "static") && !constructor,
         is_private: has_word(modifiers, "private"),
         is_constructor: constructor,
         main: is_annotated(modifiers, "MainThread") || is_annotated(modifiers, "UiThread"),
         not_thread_safe: is_annotated(modifiers, "NotThreadSafe"),
+        hidden,
     })
 }
 
@@ -175,12 +223,14 @@ fn head_info(
         name: head.name.clone()?,
         place: head.place,
         parameters,
+        any_number: false,
         result: head_kind(classes, class, &head.result),
         is_static: head.is_static && !constructor,
         is_private: false,
         is_constructor: constructor,
         main: false,
         not_thread_safe: false,
+        hidden: Hidden::new(alloc),
     })
 }
 
@@ -197,12 +247,14 @@ fn default_constructor(
         name: constructor_name(alloc)?,
         place: tree.place,
         parameters: Items::new(alloc),
+        any_number: false,
         result: Kind::Declared(class),
         is_static: false,
         is_private: false,
         is_constructor: true,
         main: false,
         not_thread_safe: false,
+        hidden: Hidden::new(alloc),
     })
 }
 
@@ -348,5 +400,10 @@ pub fn methods_of(
     let list = method_infos(alloc, classes, trees)?;
     check_counts(classes.as_slice().len(), list.len())?;
     let numbers = method_numbers(alloc, list.as_slice())?;
-    Ok(Methods { list, numbers })
+    let with_any = with_any_numbers(alloc, list.as_slice())?;
+    Ok(Methods {
+        list,
+        numbers,
+        with_any,
+    })
 }

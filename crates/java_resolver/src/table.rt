@@ -8,9 +8,11 @@ ghost use Rattle.java_resolver.specs.Table as table;
 use crate::classes::{Classes, class_trees, classes_of};
 use crate::fault::ResolveFault;
 use crate::fields::{Fields, fields_of};
+use crate::hidden::Hidden;
 use crate::infos::{ClassInfo, FieldInfo, MethodInfo};
-use crate::kinds::kind_of;
+use crate::kinds::{class_seen, kind_of, variable_kind};
 use crate::methods::{Methods, methods_of};
+use crate::scope::VariableKind;
 use java_tree::{TypeTree, Unit};
 use racer_base::{ClassId, FieldId, Kind, MethodId};
 use std::alloc::Global;
@@ -24,11 +26,12 @@ pub struct Table {
 }
 
 impl Table {
-    ghost use Rattle.std.specs.Prelude.{◌≡◌};
+    ghost use Rattle.std.specs.Prelude.{◌≡◌, option_copied};
     ghost use Rattle.java_tree.specs.View.{ty_of};
     ghost use Rattle.java_resolver.specs.Declarations.{class_names};
-    ghost use Rattle.java_resolver.specs.TypeKinds.{class_named, kind_of};
-    ghost use Rattle.java_resolver.specs.Meanings.{found, field_named};
+    ghost use Rattle.java_resolver.specs.Hidden.{hidden_by};
+    ghost use Rattle.java_resolver.specs.TypeKinds.{class_seen, kind_of, variable_kind};
+    ghost use Rattle.java_resolver.specs.Meanings.{exactly_found, found, field_named};
     ghost use Rattle.java_resolver.specs.Table.{classes, fields, methods};
 
     /// The classes, in source order.
@@ -52,11 +55,11 @@ impl Table {
         self.methods.as_slice()
     }
 
-    /// The class of a name.
-    pub fn class_named(&self, name: &str) -> Option<ClassId>
-        ensures { result ≡ class_named (class_names (classes self.now)) name.now }
+    /// The class of a name, where some names mean none.
+    pub fn class_named(&self, hidden: Option<&Hidden>, name: &str) -> Option<ClassId>
+        ensures { result ≡ class_seen (hidden_by (option_copied hidden.entry)) (class_names (classes self.now)) name.now }
     {
-        self.classes.named(name)
+        class_seen(hidden, &self.classes, name)
     }
 
     /// The field of a class by its name; where a static one is asked for, a static one.
@@ -66,14 +69,36 @@ impl Table {
         self.fields.named(c, in_static, name)
     }
 
-    /// The kind of a type.
-    pub fn type_kind(&self, tree: &TypeTree) -> Kind
-        ensures { result ≡ kind_of (class_names (classes self.now)) (ty_of tree.now) }
+    /// The kind of a type, where some names mean no class.
+    pub fn type_kind(&self, hidden: Option<&Hidden>, tree: &TypeTree) -> Kind
+        ensures { result ≡ kind_of (hidden_by (option_copied hidden.entry)) (class_names (classes self.now))
+            (ty_of tree.now) }
     {
-        kind_of(&self.classes, tree)
+        kind_of(hidden, &self.classes, tree)
+    }
+
+    /// What is known of a variable of this type, with so many `[ ]` behind its name, where some names mean no class.
+    pub fn variable_kind(
+        &self,
+        hidden: Option<&Hidden>,
+        tree: &TypeTree,
+        further: u32,
+    ) -> VariableKind
+        ensures { result ≡ variable_kind (hidden_by (option_copied hidden.entry)) (class_names (classes self.now))
+            (ty_of tree.now) further }
+    {
+        variable_kind(hidden, &self.classes, tree, further)
     }
 
     /// The method or constructor of a class by its name, `<new>` for a constructor, and its number of parameters.
+    pub fn find_exactly(&self, c: ClassId, name: &str, count: u32) -> Option<MethodId>
+        ensures { result ≡ exactly_found (methods self.now) c name.now count }
+    {
+        self.methods.exactly_named(c, name, count)
+    }
+
+    /// The method or constructor of a class that a call of its name, `<new>` for a constructor, with so many arguments
+    /// means: one of so many parameters, else one whose last parameter takes any number (JLS 15.12.2).
     pub fn find(&self, c: ClassId, name: &str, count: u32) -> Option<MethodId>
         ensures { result ≡ found (methods self.now) c name.now count }
     {

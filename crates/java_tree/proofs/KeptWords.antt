@@ -6,7 +6,7 @@ use Rattle.java_lexer.specs.declared.token.Token.{Token}
 use Rattle.java_lexer.specs.declared.token.TokenKind.TheVariants as kind
 use Rattle.java_tree.specs.Formed.{is_plain_word}
 use Rattle.java_tree.specs.KeptPlaces.{Places, is_kept, kept}
-use Rattle.java_tree.specs.MethodPlaces.{AreAt, some_onto}
+use Rattle.java_tree.specs.KeptPlaces.{AreAt, some_onto}
 
 pub kept-append : (a b : List Token) → kept (a ++ b) ≡ kept a ++ kept b
 kept-append [] b = refl

@@ -8,7 +8,7 @@ use Rattle.java_tree.specs.declared.types.TypePart.{TypePart, roll-TypePart, map
 use Rattle.java_tree.specs.declared.types.TypeArguments.{TypeArguments, roll-TypeArguments, map-TypeArguments}
 use Rattle.java_tree.specs.declared.types.TypeArgument.{TypeArgument, roll-TypeArgument, map-TypeArgument}
 use Rattle.java_tree.specs.declared.types.BaseType.TheOpen as type
-use Rattle.java_tree.specs.declared.types.BaseType.TheFolds.{ind-TypeTree, the_lemmas}
+use Rattle.java_tree.specs.declared.types.BaseType.TheFolds.{ind-TypeTree, ind-TypeArguments, the_lemmas}
 use Rattle.java_tree.specs.KeptPlaces.{all_places, ty_places, base_places, part_places, angled_places, argument_places}
 use Rattle.java_tree.specs.Trees.{pack_parts, pack_arguments}
 use Rattle.java_tree.specs.Trees.{Ty, Typed, Base, Plain, Named, Parts, no_part, part_then, Part, Bare, Generic}
@@ -140,3 +140,7 @@ ty_has x y is = subst (λ z. TyHas (roll-TypeTree z)) is (search (rules, the_lem
 
 pub ty_counts : (t : TypeTree) → TyHas t
 ty_counts = ind-TypeTree BaseHas ArgumentHas AngledHas PartHas TyHas base_has argument_has angled_has part_has ty_has
+
+pub angled_counts : (a : TypeArguments) → AngledHas a
+angled_counts =
+    ind-TypeArguments BaseHas ArgumentHas AngledHas PartHas TyHas base_has argument_has angled_has part_has ty_has

@@ -1,5 +1,5 @@
 -- A contract of a public call rests on this: worked readings, tokens as a reader writes them and small trees.
-use Rattle.std.specs.Prelude.{◌≡◌, ℕ, Bool, true, false, ◌&&◌, List, [], ◌∷◌, ◌++◌, Option, None, codes, ◌==◌}
+use Rattle.std.specs.Prelude.{◌≡◌, ℕ, Bool, true, false, ◌&&◌, List, [], ◌∷◌, ◌++◌, Option, None, codes, ◌==◌, map}
 use Rattle.std.specs.Prelude.{if◌then◌else◌}
 use Rattle.racer_base.specs.Name.{is_word, is_listed}
 use Rattle.java_lexer.specs.declared.token.TokenKind.{TokenKind}
@@ -13,6 +13,7 @@ use Rattle.java_tree.specs.Brackets.{is_sign_kind}
 use Rattle.java_tree.specs.Operators.{is_signed}
 use Rattle.java_tree.specs.Trees.{Ty, Typed, Plain, Named, no_part, part_then, Bare, Generic, Angled, ArgumentList}
 use Rattle.java_tree.specs.Trees.{no_argument, argument_then, Exact, Expr, Assign, Binary, Literal, Name, Postfix}
+use Rattle.java_tree.specs.Trees.{Cast, CallOn, ForEach, Word, Annotated, Exprs}
 use Rattle.java_tree.specs.Trees.{Call, ClassOf, no_expr, Init, Variable, Locals, Stmt, Block, Run, Empty, Stmts}
 use Rattle.java_tree.specs.Trees.{no_stmt, stmt_then, Annotation, Modifier, Result, VoidResult, Parameter, Method}
 use Rattle.java_tree.specs.Spelling.{stmt_onto}
@@ -100,6 +101,14 @@ e = Name (codes "e")
 abbrev pub f_call : Expr
 f_call = Call (codes "f") no_expr
 
+-- `(T) e`
+abbrev pub cast : Ty → Expr → Expr
+cast t e = Cast (t ∷ []) e
+
+-- `e.x(..)`
+abbrev pub call_on : Expr → List ℕ → Exprs → Expr
+call_on e x all = CallOn e None x all
+
 -- `a++`
 abbrev pub a_up : Expr
 a_up = Postfix a (codes "++")
@@ -148,10 +157,16 @@ abbrev pub a_of_b : Ty
 a_of_b = a_of (only class_b)
 
 abbrev pub variable : List ℕ → Option Init → Variable
-variable name initialiser = record { name = name; initialiser = initialiser }
+variable name initialiser = record { name = name; arrays = 0; initialiser = initialiser }
+
+-- `final`, where it stands
+abbrev pub final_where : Bool → List Modifier
+final_where false = []
+final_where true = Word (codes "final") ∷ []
 
 abbrev pub locals : Bool → Ty → List Variable → Locals
-locals is_final kind variables = record { is_final = is_final; kind = kind; variables = variables }
+locals is_final kind variables =
+    record { modifiers = final_where is_final; kind = kind; variables = variables }
 
 -- one variable of this type
 abbrev pub local_of : Ty → Locals
@@ -160,6 +175,10 @@ local_of kind = locals false kind (variable (codes "v") None ∷ [])
 -- `name = value;`
 abbrev pub assigns : List ℕ → Expr → Stmt
 assigns name value = Run (Assign (Name name) (codes "=") value)
+
+-- `for (T x : e) s`, and whether `final` stands
+abbrev pub for_each : Bool → Ty → List ℕ → Expr → Stmt → Stmt
+for_each is_final t x e s = ForEach (final_where is_final) t x e s
 
 -- `{ ; }`
 abbrev pub one_deep : Stmt
@@ -178,10 +197,11 @@ nameless_annotation = record { names = []; arguments = [] }
 
 abbrev pub parameter : Bool → List Annotation → Ty → Parameter
 parameter is_final annotations kind = record {
-  is_final = is_final;
-  annotations = annotations;
+  modifiers = final_where is_final ++ map Annotated annotations;
   kind = kind;
+  any_number = false;
   name = codes "x";
+  arrays = 0;
 }
 
 -- a parameter of this type
@@ -192,9 +212,11 @@ abbrev pub method : List Modifier → Result → List ℕ → List Parameter →
 method modifiers result name parameters throws body =
     record {
       modifiers = modifiers;
+      type_parameters = None;
       result = result;
       name = name;
       parameters = parameters;
+      arrays = 0;
       throws = throws;
       body = body;
     }

@@ -6,7 +6,8 @@ use Rattle.std.specs.Prelude.{None, IsTrue, codes, if◌then◌else◌, bytes_eq
 use Rattle.racer_base.specs.Name.{is_listed}
 use Rattle.java_lexer.specs.declared.token.TokenKind.{TokenKind}
 use Rattle.java_lexer.specs.declared.token.TokenKind.TheVariants as kind
-use Rattle.java_tree.specs.Brackets.{are_parentheses_or_none}
+use Rattle.java_tree.specs.Brackets.{are_braces, are_lambda_parameters, are_class}
+use Rattle.java_tree.specs.FormedModifiers.{Each, has_some, FormedVariableModifiers}
 use Rattle.java_tree.specs.Operators.{conditional_level, relational_level, unary_level, postfix_level}
 use Rattle.java_tree.specs.Operators.{primary_level, assignment_level, is_binary, binary_level, is_assignment}
 use Rattle.java_tree.specs.Operators.{is_prefix, is_step, is_signed}
@@ -14,11 +15,13 @@ use Rattle.java_tree.specs.Trees.{Ty, Typed, Base, Plain, Named, Parts, no_part,
 use Rattle.java_tree.specs.Trees.{Arguments, Angled, ArgumentList, no_argument, argument_then, Argument, Exact, Any}
 use Rattle.java_tree.specs.Trees.{Extends, Super, Expr, Assign, Conditional, Binary, InstanceOf, Prefix, Cast}
 use Rattle.java_tree.specs.Trees.{Postfix, Literal, This, Name, Paren, Field, Index, Call, CallOn, ClassOf, New}
+use Rattle.java_tree.specs.Trees.{NewBody, Lambda, BlockLambda, Reference, TypeReference, SuperReference, PlainClass}
+use Rattle.java_tree.specs.Trees.{ThisOf, LocalClass}
 use Rattle.java_tree.specs.Trees.{NewArray, NewItems, Exprs, no_expr, expr_then, Array, Braces, Inits, no_init}
 use Rattle.java_tree.specs.Trees.{init_then, Init, Value, Items, Variable, Locals, Start, Declares, Runs, Stmt}
 use Rattle.java_tree.specs.Trees.{Block, Local, Run, If, IfElse, For, ForEach, Labelled, Empty, Stmts}
-use Rattle.java_tree.specs.Trees.{no_stmt, stmt_then, Annotation, Modifier, Word, Annotated, Result, NoResult}
-use Rattle.java_tree.specs.Trees.{VoidResult, TypeResult, Parameter, Method, Row, Pieces, no_piece, a_token, an_expr}
+use Rattle.java_tree.specs.Trees.{no_stmt, stmt_then, Row, Pieces, no_piece}
+use Rattle.java_tree.specs.Trees.{a_token, an_expr}
 use Rattle.java_tree.specs.Trees.{maybe_an_expr, maybe_a_name, maybe_behind, a_condition, a_body, a_block}
 use Rattle.java_tree.specs.Trees.{maybe_resources, a_catch_parameter, a_list, present, absent, some_part, a_switch}
 use Rattle.java_tree.specs.Trees.{Several, no_row, row_then, Groups, no_group, group_then, Label, Case, Default}
@@ -28,18 +31,6 @@ use Rattle.java_tree.specs.Rows.{AKeyword, ASign, AnExpr, Until, MaybeName, Mayb
 use Rattle.java_tree.specs.Rows.{ASwitch, MaybeResources, ACatchParameter, Again, Perhaps, SomePart, Slots, no_slot}
 use Rattle.java_tree.specs.Rows.{◌▹◌}
 use Rattle.java_tree.specs.Rows.{is_row, row_of}
-
--- ---- lists
-
--- the fact holds of each element
-abbrev pub Each : {A : Type 0} → (A → Type 0) → List A → Type 0
-Each P [] = Unit {0}
-Each P (x ∷ xs) = P x × Each P xs
-
--- whether there is an element; so are has_part, has_argument, has_expr and has_init
-abbrev pub has_some : {A : Type 0} → List A → Bool
-has_some [] = false
-has_some (x ∷ xs) = true
 
 -- ---- types (JLS 4)
 
@@ -128,10 +119,34 @@ abbrev pub are_bare_parts : Parts → Bool
 are_bare_parts no_part = true
 are_bare_parts (part_then p ps) = is_bare_part p && are_bare_parts ps
 
--- a type without type arguments (JLS 15.20.2)
-abbrev pub is_bare : Ty → Bool
-is_bare (Typed (Plain text) arrays) = true
-is_bare (Typed (Named ps) arrays) = are_bare_parts ps
+-- a type before `.class` that is not names alone: a primitive one or `void`, or names and `[ ]` (JLS 15.8.2)
+abbrev pub FormedLiteral : Ty → Type 0
+FormedLiteral (Typed (Plain text) arrays) = IsTrue (is_plain_word text || bytes_eq text (codes "void"))
+FormedLiteral (Typed (Named ps) arrays) = IsTrue (are_bare_parts ps) × IsTrue (has_part ps) × (1 ≤ arrays)
+
+-- a type that is no expression: one with `[ ]` or with type arguments (JLS 15.13)
+abbrev pub is_no_expression : Ty → Bool
+is_no_expression (Typed base (suc n)) = true
+is_no_expression (Typed (Plain text) zero) = false
+is_no_expression (Typed (Named ps) zero) = not (are_bare_parts ps)
+
+-- what the method of a reference or of a call takes: types alone, no wildcards (JLS 15.12, 15.13)
+abbrev pub are_exact : ArgumentList → Bool
+are_exact no_argument = true
+are_exact (argument_then (Exact t) others) = are_exact others
+are_exact (argument_then _ others) = false
+
+abbrev pub are_types : Arguments → Bool
+are_types (Angled list glued) = are_exact list
+
+abbrev pub FormedTypes : Option Arguments → Type 0
+FormedTypes None = Unit {0}
+FormedTypes (Some a) = FormedAngled a × IsTrue (are_types a)
+
+-- a cast to one primitive type
+abbrev pub are_plain : List Ty → Bool
+are_plain (t ∷ []) = is_plain t
+are_plain _ = false
 
 -- ---- expressions (JLS 15)
 
@@ -143,6 +158,8 @@ level (InstanceOf a t) = relational_level
 level (Prefix op a) = unary_level
 level (Cast t a) = unary_level
 level (Postfix a op) = postfix_level
+level (Lambda ps a) = assignment_level
+level (BlockLambda ps block) = assignment_level
 level _ = primary_level
 
 -- what may stand left of `=` and beside `++`: a name, a field or an element (JLS 15.26)
@@ -164,8 +181,9 @@ is_run (Assign a op b) = true
 is_run (Prefix op a) = is_step op
 is_run (Postfix a op) = true
 is_run (Call x all) = true
-is_run (CallOn a x all) = true
+is_run (CallOn a types x all) = true
 is_run (New t all) = true
+is_run (NewBody t all body) = true
 is_run _ = false
 
 -- whether the spelling begins with `+`, `-`, `++` or `--`
@@ -178,8 +196,32 @@ begins_signed (Prefix op a) = is_signed op
 begins_signed (Postfix a op) = begins_signed a
 begins_signed (Field a x) = begins_signed a
 begins_signed (Index a i) = begins_signed a
-begins_signed (CallOn a x all) = begins_signed a
+begins_signed (CallOn a types x all) = begins_signed a
+begins_signed (Reference a types x) = begins_signed a
 begins_signed _ = false
+
+abbrev pub is_lambda : Expr → Bool
+is_lambda (Lambda ps a) = true
+is_lambda (BlockLambda ps block) = true
+is_lambda _ = false
+
+-- whether it ends in the expression of a lambda, which goes on as far as it can (JLS 15.27.2)
+abbrev pub ends_open : Expr → Bool
+ends_open (Assign a op b) = ends_open b
+ends_open (Conditional a b c) = ends_open c
+ends_open (Binary a op b) = ends_open b
+ends_open (Prefix op a) = ends_open a
+ends_open (Cast ts a) = ends_open a
+ends_open (Lambda ps a) = true
+ends_open _ = false
+
+-- the level at the end of a conditional, where a lambda may stand too (JLS 15.25)
+abbrev pub last_level : Expr → ℕ
+last_level c = if is_lambda c then assignment_level else conditional_level
+
+-- the level behind a cast, where a lambda may stand too: it is no primitive value (JLS 15.16)
+abbrev pub cast_level : List Ty → Expr → ℕ
+cast_level ts a = if is_lambda a && not (are_plain ts) then assignment_level else unary_level
 
 -- the literals that are no names, keywords or signs (JLS 15.8.1)
 abbrev pub is_literal : TokenKind → Bool
@@ -201,15 +243,17 @@ abbrev mutual
   pub FormedExpr : Expr → Type 0
   FormedExpr (Assign a op b) = FormedExpr a × FormedExpr b × IsTrue (is_assignment op) × IsTrue (is_variable a)
   FormedExpr (Conditional a b c) =
-      FormedExpr a × FormedExpr b × FormedExpr c × (suc conditional_level ≤ level a) × (conditional_level ≤ level c)
+      FormedExpr a × FormedExpr b × FormedExpr c × (suc conditional_level ≤ level a) × (last_level c ≤ level c)
+      × IsTrue (not (ends_open a))
   FormedExpr (Binary a op b) =
       FormedExpr a × FormedExpr b × IsTrue (is_binary op) × (binary_level op ≤ level a)
-      × (suc (binary_level op) ≤ level b)
-  FormedExpr (InstanceOf a t) = FormedExpr a × FormedTy t × (relational_level ≤ level a) × IsTrue (is_bare t)
+      × (suc (binary_level op) ≤ level b) × IsTrue (not (ends_open a))
+  FormedExpr (InstanceOf a t) = FormedExpr a × FormedTy t × (relational_level ≤ level a) × IsTrue (not (ends_open a))
   FormedExpr (Prefix op a) =
       FormedExpr a × IsTrue (is_prefix op) × (unary_level ≤ level a) × (IsTrue (is_step op) → IsTrue (is_variable a))
-  FormedExpr (Cast t a) =
-      FormedTy t × FormedExpr a × (unary_level ≤ level a) × (IsTrue (begins_signed a) → IsTrue (is_plain t))
+  FormedExpr (Cast ts a) =
+      Each FormedTy ts × IsTrue (has_some ts) × FormedExpr a × (cast_level ts a ≤ level a)
+      × (IsTrue (begins_signed a) → IsTrue (are_plain ts))
   FormedExpr (Postfix a op) = FormedExpr a × IsTrue (is_step op) × IsTrue (is_variable a)
   FormedExpr (Literal k text) = IsTrue (is_literal k)
   FormedExpr This = Unit {0}
@@ -218,11 +262,20 @@ abbrev mutual
   FormedExpr (Field a x) = FormedExpr a × (primary_level ≤ level a)
   FormedExpr (Index a i) = FormedExpr a × FormedExpr i × (primary_level ≤ level a) × IsTrue (not (makes_array a))
   FormedExpr (Call x all) = FormedExprs all
-  FormedExpr (CallOn a x all) = FormedExpr a × FormedExprs all × (primary_level ≤ level a)
+  FormedExpr (CallOn a types x all) =
+      FormedExpr a × FormedTypes types × FormedExprs all × (primary_level ≤ level a)
   FormedExpr (ClassOf xs) = IsTrue (has_some xs)
   FormedExpr (New t all) = FormedClass t × FormedExprs all
   FormedExpr (NewArray t lengths n) = FormedElement t × FormedExprs lengths × IsTrue (has_expr lengths)
   FormedExpr (NewItems t n items) = FormedElement t × (1 ≤ n) × FormedArray items
+  FormedExpr (NewBody t all body) = FormedClass t × FormedExprs all × IsTrue (are_braces body)
+  FormedExpr (Lambda ps a) = IsTrue (are_lambda_parameters ps) × FormedExpr a
+  FormedExpr (BlockLambda ps block) = IsTrue (are_lambda_parameters ps) × IsTrue (are_braces block)
+  FormedExpr (Reference a types x) = FormedExpr a × FormedTypes types × (primary_level ≤ level a)
+  FormedExpr (TypeReference t types x) = FormedTy t × FormedTypes types × IsTrue (is_no_expression t)
+  FormedExpr (SuperReference types x) = FormedTypes types
+  FormedExpr (PlainClass t) = FormedLiteral t
+  FormedExpr (ThisOf xs) = IsTrue (has_some xs)
 
   pub FormedExprs : Exprs → Type 0
   FormedExprs no_expr = Unit {0}
@@ -262,7 +315,9 @@ abbrev pub FormedVariable : Variable → Type 0
 FormedVariable v = FormedMaybeInit v.initialiser
 
 abbrev pub FormedLocals : Locals → Type 0
-FormedLocals l = FormedTy l.kind × IsTrue (has_some l.variables) × Each FormedVariable l.variables
+FormedLocals l =
+    FormedVariableModifiers l.modifiers × FormedTy l.kind × IsTrue (has_some l.variables)
+    × Each FormedVariable l.variables
 
 abbrev pub FormedStart : Start → Type 0
 FormedStart (Declares l) = FormedLocals l
@@ -271,6 +326,7 @@ FormedStart (Runs all) = FormedRuns all
 -- a declaration is no body of an `if`, a loop or a label (JLS 14.5)
 abbrev pub is_body : Stmt → Bool
 is_body (Local l) = false
+is_body (LocalClass x ts) = false
 is_body _ = true
 
 abbrev pub is_last : Pieces → Bool
@@ -315,7 +371,7 @@ abbrev mutual
   goes_on word (If e s) = bytes_eq word (codes "else") || goes_on word s
   goes_on word (IfElse e s t) = goes_on word t
   goes_on word (For start condition updates s) = goes_on word s
-  goes_on word (ForEach is_final t x e s) = goes_on word s
+  goes_on word (ForEach ms t x e s) = goes_on word s
   goes_on word (Labelled x s) = goes_on word s
   goes_on word (Row w ps) = go_on word ps
   goes_on word _ = false
@@ -347,14 +403,15 @@ abbrev pub FormedThrown : Ty → Type 0
 FormedThrown t = FormedTy t × IsTrue (is_named t)
 
 abbrev pub FormedResource : Resource → Type 0
-FormedResource r = FormedTy r.kind × FormedExpr r.value
+FormedResource r = FormedVariableModifiers r.modifiers × FormedTy r.kind × FormedExpr r.value
 
 abbrev pub FormedMaybeResources : Option Resources → Type 0
 FormedMaybeResources None = Unit {0}
 FormedMaybeResources (Some rs) = IsTrue (has_some rs.items) × Each FormedResource rs.items
 
 abbrev pub FormedCatchParameter : CatchParameter → Type 0
-FormedCatchParameter c = IsTrue (has_some c.types) × Each FormedThrown c.types
+FormedCatchParameter c =
+    FormedVariableModifiers c.modifiers × IsTrue (has_some c.types) × Each FormedThrown c.types
 
 -- no assignment stands behind `case` (JLS 14.11)
 abbrev pub FormedLabel : Label → Type 0
@@ -380,8 +437,10 @@ abbrev mutual
       × IsTrue (not (ends_in_if s))
   FormedStmt (For start condition updates s) =
       FormedStart start × FormedMaybeExpr condition × FormedRuns updates × FormedStmt s × IsTrue (is_body s)
-  FormedStmt (ForEach is_final t x e s) = FormedTy t × FormedExpr e × FormedStmt s × IsTrue (is_body s)
+  FormedStmt (ForEach ms t x e s) =
+      FormedVariableModifiers ms × FormedTy t × FormedExpr e × FormedStmt s × IsTrue (is_body s)
   FormedStmt (Labelled x s) = FormedStmt s × IsTrue (is_body s)
+  FormedStmt (LocalClass x ts) = IsTrue (are_class x ts)
   FormedStmt Empty = Unit {0}
   FormedStmt (Row word ps) = IsTrue (is_row word) × Fits ps (row_of word)
 
@@ -420,34 +479,3 @@ abbrev mutual
   pub EachFits : Several → Slots → Type 0
   EachFits no_row sub = Unit {0}
   EachFits (row_then ps more) sub = Fits ps sub × EachFits more sub
-
--- ---- methods (JLS 8.4, 8.8)
-
--- the words of a method (JLS 8.4.3)
-abbrev pub is_method_modifier : List ℕ → Bool
-is_method_modifier text =
-    is_listed
-    (codes "public" ∷ codes "protected" ∷ codes "private" ∷ codes "static" ∷ codes "final" ∷ codes "synchronized"
-    ∷ codes "strictfp" ∷ [])
-    text
-
--- names, and parentheses with any balanced tokens or none (JLS 9.7)
-abbrev pub FormedAnnotation : Annotation → Type 0
-FormedAnnotation n = IsTrue (has_some n.names) × IsTrue (are_parentheses_or_none n.arguments)
-
-abbrev pub FormedModifier : Modifier → Type 0
-FormedModifier (Word text) = IsTrue (is_method_modifier text)
-FormedModifier (Annotated n) = FormedAnnotation n
-
-abbrev pub FormedResult : Result → Type 0
-FormedResult NoResult = Unit {0}
-FormedResult VoidResult = Unit {0}
-FormedResult (TypeResult t) = FormedTy t
-
-abbrev pub FormedParameter : Parameter → Type 0
-FormedParameter p = Each FormedAnnotation p.annotations × FormedTy p.kind
-
-abbrev pub FormedMethod : Method → Type 0
-FormedMethod m =
-    Each FormedModifier m.modifiers × FormedResult m.result × Each FormedParameter m.parameters
-    × Each FormedThrown m.throws × FormedStmts m.body

@@ -5,7 +5,9 @@ pub mod Rows
 pub mod Spelling
 pub mod Nesting
 pub mod Brackets
+pub mod FormedModifiers
 pub mod Formed
+pub mod FormedMethods
 pub mod View
 pub mod KeptPlaces
 pub mod MethodPlaces

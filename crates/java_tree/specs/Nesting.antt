@@ -5,6 +5,8 @@ use Rattle.java_tree.specs.Trees.{Ty, Typed, Base, Plain, Named, Parts, no_part,
 use Rattle.java_tree.specs.Trees.{Arguments, Angled, ArgumentList, no_argument, argument_then, Argument, Exact, Any}
 use Rattle.java_tree.specs.Trees.{Extends, Super, Expr, Assign, Conditional, Binary, InstanceOf, Prefix, Cast}
 use Rattle.java_tree.specs.Trees.{Postfix, Literal, This, Name, Paren, Field, Index, Call, CallOn, ClassOf, New}
+use Rattle.java_tree.specs.Trees.{NewBody, Lambda, BlockLambda, Reference, TypeReference, SuperReference, PlainClass}
+use Rattle.java_tree.specs.Trees.{ThisOf, LocalClass, TypeParameter, TypeParameters}
 use Rattle.java_tree.specs.Trees.{NewArray, NewItems, Exprs, no_expr, expr_then, Array, Braces, Inits, no_init}
 use Rattle.java_tree.specs.Trees.{init_then, Init, Value, Items, Variable, Locals, Start, Declares, Runs, Stmt}
 use Rattle.java_tree.specs.Trees.{Block, Local, Run, If, IfElse, For, ForEach, Labelled, Empty, Stmts}
@@ -50,14 +52,19 @@ abbrev mutual
   argument_nesting (Extends t) = ty_nesting t
   argument_nesting (Super t) = ty_nesting t
 
+abbrev pub maybe_angled_nesting : Option Arguments → ℕ
+maybe_angled_nesting None = 0
+maybe_angled_nesting (Some a) = angled_nesting a
+
 abbrev mutual
+  -- tokens count nothing
   pub expr_nesting : Expr → ℕ
   expr_nesting (Assign a op b) = suc (max (expr_nesting a) (expr_nesting b))
   expr_nesting (Conditional a b c) = suc (max (expr_nesting a) (max (expr_nesting b) (expr_nesting c)))
   expr_nesting (Binary a op b) = suc (max (expr_nesting a) (expr_nesting b))
   expr_nesting (InstanceOf a t) = suc (max (expr_nesting a) (ty_nesting t))
   expr_nesting (Prefix op a) = suc (expr_nesting a)
-  expr_nesting (Cast t a) = suc (max (ty_nesting t) (expr_nesting a))
+  expr_nesting (Cast ts a) = suc (max (most_over ty_nesting ts) (expr_nesting a))
   expr_nesting (Postfix a op) = suc (expr_nesting a)
   expr_nesting (Literal k text) = 1
   expr_nesting This = 1
@@ -66,11 +73,20 @@ abbrev mutual
   expr_nesting (Field a x) = suc (expr_nesting a)
   expr_nesting (Index a i) = suc (max (expr_nesting a) (expr_nesting i))
   expr_nesting (Call x all) = suc (exprs_nesting all)
-  expr_nesting (CallOn a x all) = suc (max (expr_nesting a) (exprs_nesting all))
+  expr_nesting (CallOn a types x all) =
+      suc (max (expr_nesting a) (max (maybe_angled_nesting types) (exprs_nesting all)))
   expr_nesting (ClassOf xs) = 1
   expr_nesting (New t all) = suc (max (ty_nesting t) (exprs_nesting all))
   expr_nesting (NewArray t lengths n) = suc (max (ty_nesting t) (exprs_nesting lengths))
   expr_nesting (NewItems t n items) = suc (max (ty_nesting t) (array_nesting items))
+  expr_nesting (NewBody t all body) = suc (max (ty_nesting t) (exprs_nesting all))
+  expr_nesting (Lambda ps a) = suc (expr_nesting a)
+  expr_nesting (BlockLambda ps block) = 1
+  expr_nesting (Reference a types x) = suc (max (expr_nesting a) (maybe_angled_nesting types))
+  expr_nesting (TypeReference t types x) = suc (max (ty_nesting t) (maybe_angled_nesting types))
+  expr_nesting (SuperReference types x) = suc (maybe_angled_nesting types)
+  expr_nesting (PlainClass t) = 1
+  expr_nesting (ThisOf xs) = 1
 
   pub exprs_nesting : Exprs → ℕ
   exprs_nesting no_expr = 0
@@ -130,8 +146,9 @@ abbrev mutual
   stmt_nesting (For start condition updates s) =
       suc (max (start_nesting start) (max (maybe_expr_nesting condition) (max (exprs_nesting updates)
       (stmt_nesting s))))
-  stmt_nesting (ForEach is_final t x e s) = suc (max (ty_nesting t) (max (expr_nesting e) (stmt_nesting s)))
+  stmt_nesting (ForEach ms t x e s) = suc (max (ty_nesting t) (max (expr_nesting e) (stmt_nesting s)))
   stmt_nesting (Labelled x s) = suc (stmt_nesting s)
+  stmt_nesting (LocalClass x ts) = 1
   stmt_nesting Empty = 1
   stmt_nesting (Row word ps) = suc (pieces_nesting ps)
 
@@ -179,7 +196,14 @@ result_nesting (TypeResult t) = ty_nesting t
 abbrev pub parameter_nesting : Parameter → ℕ
 parameter_nesting p = ty_nesting p.kind
 
+abbrev pub type_parameter_nesting : TypeParameter → ℕ
+type_parameter_nesting p = most_over ty_nesting p.bounds
+
+abbrev pub type_parameters_nesting : Option TypeParameters → ℕ
+type_parameters_nesting None = 0
+type_parameters_nesting (Some ps) = most_over type_parameter_nesting ps.items
+
 abbrev pub method_nesting : Method → ℕ
 method_nesting m =
-    max (result_nesting m.result) (max (most_over parameter_nesting m.parameters) (max (most_over ty_nesting m.throws)
-    (block_nesting m.body)))
+    max (type_parameters_nesting m.type_parameters) (max (result_nesting m.result)
+    (max (most_over parameter_nesting m.parameters) (max (most_over ty_nesting m.throws) (block_nesting m.body))))

@@ -7,6 +7,8 @@ use Rattle.java_tree.specs.Trees.{Ty, Typed, Base, Plain, Named, Parts, no_part,
 use Rattle.java_tree.specs.Trees.{Arguments, Angled, ArgumentList, no_argument, argument_then, Argument, Exact, Any}
 use Rattle.java_tree.specs.Trees.{Extends, Super, Expr, Assign, Conditional, Binary, InstanceOf, Prefix, Cast}
 use Rattle.java_tree.specs.Trees.{Postfix, Literal, This, Name, Paren, Field, Index, Call, CallOn, ClassOf, New}
+use Rattle.java_tree.specs.Trees.{NewBody, Lambda, BlockLambda, Reference, TypeReference, SuperReference, PlainClass}
+use Rattle.java_tree.specs.Trees.{ThisOf, LocalClass, TypeParameter, TypeParameters}
 use Rattle.java_tree.specs.Trees.{NewArray, NewItems, Exprs, no_expr, expr_then, Array, Braces, Inits, no_init}
 use Rattle.java_tree.specs.Trees.{init_then, Init, Value, Items, Variable, Locals, Start, Declares, Runs, Stmt}
 use Rattle.java_tree.specs.Trees.{Block, Local, Run, If, IfElse, For, ForEach, Labelled, Empty, Stmts}
@@ -44,10 +46,14 @@ abbrev pub brackets_onto : ℕ → List Spelled → List Spelled
 brackets_onto zero rest = rest
 brackets_onto (suc n) rest = sign (codes "[") ∷ sign (codes "]") ∷ brackets_onto n rest
 
--- the keyword `final`, where it stands
-abbrev pub final_onto : Bool → List Spelled → List Spelled
-final_onto true rest = keyword (codes "final") ∷ rest
-final_onto false rest = rest
+-- the sign, where it stands
+abbrev pub sign_where : Bool → (text : List ℕ) → List Spelled → List Spelled
+sign_where true text rest = sign text ∷ rest
+sign_where false text rest = rest
+
+-- these tokens
+abbrev pub tokens_onto : List Spelled → List Spelled → List Spelled
+tokens_onto ts rest = ts ++ rest
 
 -- ---- types (JLS 4)
 
@@ -94,7 +100,26 @@ abbrev mutual
   argument_onto (Extends t) rest = sign (codes "?") ∷ keyword (codes "extends") ∷ ty_onto t rest
   argument_onto (Super t) rest = sign (codes "?") ∷ keyword (codes "super") ∷ ty_onto t rest
 
+-- each behind this sign
+abbrev pub behind_sign : (text : List ℕ) → List Ty → List Spelled → List Spelled
+behind_sign text [] rest = rest
+behind_sign text (t ∷ ts) rest = sign text ∷ ty_onto t (behind_sign text ts rest)
+
+-- with this sign between them
+abbrev pub between_sign : (text : List ℕ) → List Ty → List Spelled → List Spelled
+between_sign text [] rest = rest
+between_sign text (t ∷ ts) rest = ty_onto t (behind_sign text ts rest)
+
+abbrev pub maybe_angled_onto : Option Arguments → List Spelled → List Spelled
+maybe_angled_onto None rest = rest
+maybe_angled_onto (Some a) rest = angled_onto a rest
+
 -- ---- expressions (JLS 15) and array initialisers (JLS 10.6)
+
+-- what a method reference refers to, behind its `::` (JLS 15.13)
+abbrev pub referred_onto : Option Arguments → (name : Option (List ℕ)) → List Spelled → List Spelled
+referred_onto types None rest = maybe_angled_onto types (keyword (codes "new") ∷ rest)
+referred_onto types (Some x) rest = maybe_angled_onto types (identifier x ∷ rest)
 
 -- the shifts to the right are two or three `>`, each but the first glued
 abbrev pub operator_onto : List ℕ → List Spelled → List Spelled
@@ -106,8 +131,7 @@ operator_onto text rest =
 
 -- the last comma of an array initialiser, where it stands
 abbrev pub last_comma_onto : Bool → List Spelled → List Spelled
-last_comma_onto true rest = sign (codes ",") ∷ rest
-last_comma_onto false rest = rest
+last_comma_onto stands rest = sign_where stands (codes ",") rest
 
 abbrev mutual
   pub expr_onto : Expr → List Spelled → List Spelled
@@ -117,7 +141,7 @@ abbrev mutual
   expr_onto (Binary a op b) rest = expr_onto a (operator_onto op (expr_onto b rest))
   expr_onto (InstanceOf a t) rest = expr_onto a (keyword (codes "instanceof") ∷ ty_onto t rest)
   expr_onto (Prefix op a) rest = sign op ∷ expr_onto a rest
-  expr_onto (Cast t a) rest = sign (codes "(") ∷ ty_onto t (sign (codes ")") ∷ expr_onto a rest)
+  expr_onto (Cast ts a) rest = sign (codes "(") ∷ between_sign (codes "&") ts (sign (codes ")") ∷ expr_onto a rest)
   expr_onto (Postfix a op) rest = expr_onto a (sign op ∷ rest)
   expr_onto (Literal k text) rest = word_of k text ∷ rest
   expr_onto This rest = keyword (codes "this") ∷ rest
@@ -126,14 +150,24 @@ abbrev mutual
   expr_onto (Field a x) rest = expr_onto a (sign (codes ".") ∷ identifier x ∷ rest)
   expr_onto (Index a i) rest = expr_onto a (sign (codes "[") ∷ expr_onto i (sign (codes "]") ∷ rest))
   expr_onto (Call x all) rest = identifier x ∷ sign (codes "(") ∷ exprs_onto all (sign (codes ")") ∷ rest)
-  expr_onto (CallOn a x all) rest =
-      expr_onto a (sign (codes ".") ∷ identifier x ∷ sign (codes "(") ∷ exprs_onto all (sign (codes ")") ∷ rest))
+  expr_onto (CallOn a types x all) rest =
+      expr_onto a (sign (codes ".") ∷
+      maybe_angled_onto types (identifier x ∷ sign (codes "(") ∷ exprs_onto all (sign (codes ")") ∷ rest)))
   expr_onto (ClassOf xs) rest = names_onto xs (sign (codes ".") ∷ keyword (codes "class") ∷ rest)
   expr_onto (New t all) rest = keyword (codes "new") ∷ ty_onto t (sign (codes "(") ∷ exprs_onto all (sign (codes ")")
       ∷ rest))
   expr_onto (NewArray t lengths n) rest =
       keyword (codes "new") ∷ ty_onto t (lengths_onto lengths (brackets_onto n rest))
   expr_onto (NewItems t n items) rest = keyword (codes "new") ∷ ty_onto t (brackets_onto n (array_onto items rest))
+  expr_onto (NewBody t all body) rest = keyword (codes "new") ∷ ty_onto t (sign (codes "(") ∷ exprs_onto all
+      (sign (codes ")") ∷ tokens_onto body rest))
+  expr_onto (Lambda ps a) rest = tokens_onto ps (sign (codes "->") ∷ expr_onto a rest)
+  expr_onto (BlockLambda ps block) rest = tokens_onto ps (sign (codes "->") ∷ tokens_onto block rest)
+  expr_onto (Reference a types x) rest = expr_onto a (sign (codes "::") ∷ referred_onto types x rest)
+  expr_onto (TypeReference t types x) rest = ty_onto t (sign (codes "::") ∷ referred_onto types x rest)
+  expr_onto (SuperReference types x) rest = keyword (codes "super") ∷ sign (codes "::") ∷ referred_onto types x rest
+  expr_onto (PlainClass t) rest = ty_onto t (sign (codes ".") ∷ keyword (codes "class") ∷ rest)
+  expr_onto (ThisOf xs) rest = names_onto xs (sign (codes ".") ∷ keyword (codes "this") ∷ rest)
 
   -- with commas between them
   pub exprs_onto : Exprs → List Spelled → List Spelled
@@ -172,6 +206,24 @@ abbrev pub maybe_expr_onto : Option Expr → List Spelled → List Spelled
 maybe_expr_onto None rest = rest
 maybe_expr_onto (Some e) rest = expr_onto e rest
 
+-- ---- modifiers (JLS 8.4.3, 9.7, 14.4)
+
+-- JLS 9.7
+abbrev pub annotation_onto : Annotation → List Spelled → List Spelled
+annotation_onto n rest = sign (codes "@") ∷ names_onto n.names (n.arguments ++ rest)
+
+abbrev pub annotations_onto : List Annotation → List Spelled → List Spelled
+annotations_onto [] rest = rest
+annotations_onto (n ∷ ns) rest = annotation_onto n (annotations_onto ns rest)
+
+abbrev pub modifier_onto : Modifier → List Spelled → List Spelled
+modifier_onto (Word text) rest = keyword text ∷ rest
+modifier_onto (Annotated n) rest = annotation_onto n rest
+
+abbrev pub modifiers_onto : List Modifier → List Spelled → List Spelled
+modifiers_onto [] rest = rest
+modifiers_onto (m ∷ ms) rest = modifier_onto m (modifiers_onto ms rest)
+
 -- ---- statements (JLS 14)
 
 -- `=` and what a variable begins with, where it stands
@@ -180,10 +232,10 @@ maybe_init_onto None rest = rest
 maybe_init_onto (Some i) rest = sign (codes "=") ∷ init_onto i rest
 
 abbrev pub variable_onto : Variable → List Spelled → List Spelled
-variable_onto v rest = identifier v.name ∷ maybe_init_onto v.initialiser rest
+variable_onto v rest = identifier v.name ∷ brackets_onto v.arrays (maybe_init_onto v.initialiser rest)
 
 abbrev pub locals_onto : Locals → List Spelled → List Spelled
-locals_onto l rest = final_onto l.is_final (ty_onto l.kind (commas_onto variable_onto l.variables rest))
+locals_onto l rest = modifiers_onto l.modifiers (ty_onto l.kind (commas_onto variable_onto l.variables rest))
 
 abbrev pub start_onto : Start → List Spelled → List Spelled
 start_onto (Declares l) rest = locals_onto l rest
@@ -191,7 +243,7 @@ start_onto (Runs all) rest = exprs_onto all rest
 
 abbrev pub resource_onto : Resource → List Spelled → List Spelled
 resource_onto r rest =
-    final_onto r.is_final (ty_onto r.kind (identifier r.name ∷ sign (codes "=") ∷ expr_onto r.value rest))
+    modifiers_onto r.modifiers (ty_onto r.kind (identifier r.name ∷ sign (codes "=") ∷ expr_onto r.value rest))
 
 -- each behind a `;`
 abbrev pub more_resources_onto : List Resource → List Spelled → List Spelled
@@ -205,8 +257,7 @@ resource_list_onto (r ∷ rs) rest = resource_onto r (more_resources_onto rs res
 
 -- the last `;`, where it stands
 abbrev pub last_semicolon_onto : Bool → List Spelled → List Spelled
-last_semicolon_onto true rest = sign (codes ";") ∷ rest
-last_semicolon_onto false rest = rest
+last_semicolon_onto stands rest = sign_where stands (codes ";") rest
 
 abbrev pub resources_onto : Resources → List Spelled → List Spelled
 resources_onto rs rest =
@@ -216,19 +267,10 @@ abbrev pub maybe_resources_onto : Option Resources → List Spelled → List Spe
 maybe_resources_onto None rest = rest
 maybe_resources_onto (Some rs) rest = resources_onto rs rest
 
--- each behind a `|`
-abbrev pub behind_bars : List Ty → List Spelled → List Spelled
-behind_bars [] rest = rest
-behind_bars (t ∷ ts) rest = sign (codes "|") ∷ ty_onto t (behind_bars ts rest)
-
--- with `|` between them
-abbrev pub bars_onto : List Ty → List Spelled → List Spelled
-bars_onto [] rest = rest
-bars_onto (t ∷ ts) rest = ty_onto t (behind_bars ts rest)
-
 abbrev pub catch_parameter_onto : CatchParameter → List Spelled → List Spelled
 catch_parameter_onto c rest =
-    sign (codes "(") ∷ final_onto c.is_final (bars_onto c.types (identifier c.name ∷ sign (codes ")") ∷ rest))
+    sign (codes "(") ∷
+    modifiers_onto c.modifiers (between_sign (codes "|") c.types (identifier c.name ∷ sign (codes ")") ∷ rest))
 
 abbrev pub label_onto : Label → List Spelled → List Spelled
 label_onto (Case e) rest = keyword (codes "case") ∷ expr_onto e (sign (codes ":") ∷ rest)
@@ -260,11 +302,12 @@ abbrev mutual
       keyword (codes "for") ∷ sign (codes "(") ∷
       start_onto start (sign (codes ";") ∷ maybe_expr_onto condition (sign (codes ";") ∷ exprs_onto updates
       (sign (codes ")") ∷ stmt_onto s rest)))
-  stmt_onto (ForEach is_final t x e s) rest =
+  stmt_onto (ForEach ms t x e s) rest =
       keyword (codes "for") ∷ sign (codes "(") ∷
-      final_onto is_final (ty_onto t (identifier x ∷ sign (codes ":") ∷ expr_onto e (sign (codes ")")
+      modifiers_onto ms (ty_onto t (identifier x ∷ sign (codes ":") ∷ expr_onto e (sign (codes ")")
       ∷ stmt_onto s rest)))
   stmt_onto (Labelled x s) rest = identifier x ∷ sign (codes ":") ∷ stmt_onto s rest
+  stmt_onto (LocalClass x ts) rest = tokens_onto ts rest
   stmt_onto Empty rest = sign (codes ";") ∷ rest
   stmt_onto (Row word ps) rest = keyword word ∷ pieces_onto ps rest
 
@@ -303,22 +346,6 @@ block_onto ss rest = sign (codes "{") ∷ stmts_onto ss (sign (codes "}") ∷ re
 
 -- ---- methods (JLS 8.4, 8.8)
 
--- JLS 9.7
-abbrev pub annotation_onto : Annotation → List Spelled → List Spelled
-annotation_onto n rest = sign (codes "@") ∷ names_onto n.names (n.arguments ++ rest)
-
-abbrev pub annotations_onto : List Annotation → List Spelled → List Spelled
-annotations_onto [] rest = rest
-annotations_onto (n ∷ ns) rest = annotation_onto n (annotations_onto ns rest)
-
-abbrev pub modifier_onto : Modifier → List Spelled → List Spelled
-modifier_onto (Word text) rest = keyword text ∷ rest
-modifier_onto (Annotated n) rest = annotation_onto n rest
-
-abbrev pub modifiers_onto : List Modifier → List Spelled → List Spelled
-modifiers_onto [] rest = rest
-modifiers_onto (m ∷ ms) rest = modifier_onto m (modifiers_onto ms rest)
-
 abbrev pub result_onto : Result → List Spelled → List Spelled
 result_onto NoResult rest = rest
 result_onto VoidResult rest = keyword (codes "void") ∷ rest
@@ -327,7 +354,23 @@ result_onto (TypeResult t) rest = ty_onto t rest
 -- JLS 8.4.1
 abbrev pub parameter_onto : Parameter → List Spelled → List Spelled
 parameter_onto p rest =
-    final_onto p.is_final (annotations_onto p.annotations (ty_onto p.kind (identifier p.name ∷ rest)))
+    modifiers_onto p.modifiers (ty_onto p.kind (sign_where p.any_number (codes "...") (identifier p.name
+    ∷ brackets_onto p.arrays rest)))
+
+-- JLS 4.4
+abbrev pub bounds_onto : List Ty → List Spelled → List Spelled
+bounds_onto [] rest = rest
+bounds_onto (t ∷ ts) rest = keyword (codes "extends") ∷ between_sign (codes "&") (t ∷ ts) rest
+
+abbrev pub type_parameter_onto : TypeParameter → List Spelled → List Spelled
+type_parameter_onto p rest = annotations_onto p.annotations (identifier p.name ∷ bounds_onto p.bounds rest)
+
+-- JLS 8.4.4
+abbrev pub type_parameters_onto : Option TypeParameters → List Spelled → List Spelled
+type_parameters_onto None rest = rest
+type_parameters_onto (Some ps) rest =
+    sign (codes "<") ∷
+    commas_onto type_parameter_onto ps.items (sign_glued ps.glued (codes ">") ∷ modifiers_onto ps.modifiers rest)
 
 -- JLS 8.4.6
 abbrev pub throws_onto : List Ty → List Spelled → List Spelled
@@ -336,8 +379,10 @@ throws_onto (t ∷ ts) rest = keyword (codes "throws") ∷ commas_onto ty_onto (
 
 abbrev pub method_onto : Method → List Spelled → List Spelled
 method_onto m rest =
-    modifiers_onto m.modifiers (result_onto m.result (identifier m.name ∷ sign (codes "(") ∷
-    commas_onto parameter_onto m.parameters (sign (codes ")") ∷ throws_onto m.throws (block_onto m.body rest))))
+    modifiers_onto m.modifiers (type_parameters_onto m.type_parameters (result_onto m.result (identifier m.name
+    ∷ sign (codes "(") ∷
+    commas_onto parameter_onto m.parameters (sign (codes ")") ∷ brackets_onto m.arrays (throws_onto m.throws
+    (block_onto m.body rest))))))
 
 -- the tokens of a method
 abbrev pub spelling : Method → List Spelled

@@ -1,6 +1,6 @@
 -- A contract of a public call rests on this: small parts of `switch` and `try` for worked trees (JLS 14.11, 14.20).
 use Rattle.std.specs.Prelude.{ℕ, Bool, false, List, [], ◌∷◌, Option, Some, None, codes}
-use Rattle.java_tree.specs.Examples.{a, class_a}
+use Rattle.java_tree.specs.Examples.{a, class_a, final_where}
 use Rattle.java_tree.specs.Trees.{Ty, Expr, Stmt, Empty, Stmts, no_stmt, stmt_then, Pieces, Several, no_row, row_then}
 use Rattle.java_tree.specs.Trees.{Groups, no_group, group_then, Label, Resource, Resources, CatchParameter}
 use Rattle.java_tree.specs.Rows.{Switch, Try}
@@ -18,7 +18,8 @@ abbrev pub switch_at : Label → Stmt
 switch_at label = Switch a (only_group (label ∷ []) (one_stmt Empty))
 
 abbrev pub resource : Bool → Ty → List ℕ → Expr → Resource
-resource is_final kind name value = record { is_final = is_final; kind = kind; name = name; value = value }
+resource is_final kind name value =
+    record { modifiers = final_where is_final; kind = kind; name = name; value = value }
 
 -- whether a `;` stands behind the last one
 abbrev pub resources : List Resource → Bool → Option Resources
@@ -29,7 +30,7 @@ abbrev pub one_resource : Ty → Expr → Option Resources
 one_resource kind value = resources (resource false kind (codes "x") value ∷ []) false
 
 abbrev pub caught : Bool → List Ty → CatchParameter
-caught is_final types = record { is_final = is_final; types = types; name = codes "x" }
+caught is_final types = record { modifiers = final_where is_final; types = types; name = codes "x" }
 
 -- `catch (T | U x) { .. }`
 abbrev pub one_catch : List Ty → Stmts → Several

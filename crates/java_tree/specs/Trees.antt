@@ -47,7 +47,7 @@ mutual
     Binary : Expr → (operator : List ℕ) → Expr → Expr
     InstanceOf : Expr → Ty → Expr
     Prefix : (operator : List ℕ) → Expr → Expr
-    Cast : Ty → Expr → Expr
+    Cast : List Ty → Expr → Expr
     Postfix : Expr → (operator : List ℕ) → Expr
     Literal : TokenKind → (text : List ℕ) → Expr
     This : Expr
@@ -56,11 +56,23 @@ mutual
     Field : Expr → (name : List ℕ) → Expr
     Index : Expr → Expr → Expr
     Call : (name : List ℕ) → Exprs → Expr
-    CallOn : Expr → (name : List ℕ) → Exprs → Expr
+    CallOn : Expr → Option Arguments → (name : List ℕ) → Exprs → Expr
     ClassOf : (names : List (List ℕ)) → Expr
     New : Ty → Exprs → Expr
     NewArray : Ty → (lengths : Exprs) → (arrays : ℕ) → Expr
     NewItems : Ty → (arrays : ℕ) → Array → Expr
+    -- with the tokens of its braces, these included
+    NewBody : Ty → Exprs → (body : List Spelled) → Expr
+    -- with the tokens before its `->`; then an expression, or braces and their tokens
+    Lambda : (parameters : List Spelled) → Expr → Expr
+    BlockLambda : (parameters block : List Spelled) → Expr
+    -- to a method of this name, or to a constructor where none stands
+    Reference : Expr → Option Arguments → (name : Option (List ℕ)) → Expr
+    TypeReference : Ty → Option Arguments → (name : Option (List ℕ)) → Expr
+    SuperReference : Option Arguments → (name : Option (List ℕ)) → Expr
+    -- `.class` behind another type than names; `void` is a primitive type here
+    PlainClass : Ty → Expr
+    ThisOf : (names : List (List ℕ)) → Expr
 
   pub data Exprs : Type 0 where
     no_expr : Exprs
@@ -94,16 +106,28 @@ abbrev pub pack_arguments : List Argument → ArgumentList
 pack_arguments [] = no_argument
 pack_arguments (a ∷ rest) = argument_then a (pack_arguments rest)
 
+-- ---- modifiers (JLS 8.4.3, 9.7, 14.4)
+
+-- names joined by `.`, and the tokens of the parentheses, these included
+pub record Annotation : Type 0 where
+  pub names : List (List ℕ)
+  pub arguments : List Spelled
+
+pub data Modifier : Type 0 where
+  Word : (text : List ℕ) → Modifier
+  Annotated : Annotation → Modifier
+
 -- ---- statements (JLS 14)
 
--- a variable, with what it begins with
+-- a variable, with the number of the `[ ]` behind its name, and what it begins with
 pub record Variable : Type 0 where
   pub name : List ℕ
+  pub arrays : ℕ
   pub initialiser : Option Init
 
 -- a declaration of variables, without its `;`
 pub record Locals : Type 0 where
-  pub is_final : Bool
+  pub modifiers : List Modifier
   pub kind : Ty
   pub variables : List Variable
 
@@ -114,7 +138,7 @@ pub data Start : Type 0 where
 
 -- `final T x = e` in the parentheses of a `try`
 pub record Resource : Type 0 where
-  pub is_final : Bool
+  pub modifiers : List Modifier
   pub kind : Ty
   pub name : List ℕ
   pub value : Expr
@@ -126,7 +150,7 @@ pub record Resources : Type 0 where
 
 -- the parameter of a `catch`, with its types
 pub record CatchParameter : Type 0 where
-  pub is_final : Bool
+  pub modifiers : List Modifier
   pub types : List Ty
   pub name : List ℕ
 
@@ -143,8 +167,10 @@ mutual
     If : Expr → Stmt → Stmt
     IfElse : Expr → Stmt → Stmt → Stmt
     For : Start → (condition : Option Expr) → (updates : Exprs) → Stmt → Stmt
-    ForEach : (is_final : Bool) → Ty → (name : List ℕ) → Expr → Stmt → Stmt
+    ForEach : List Modifier → Ty → (name : List ℕ) → Expr → Stmt → Stmt
     Labelled : (name : List ℕ) → Stmt → Stmt
+    -- with all of its tokens
+    LocalClass : (name : List ℕ) → List Spelled → Stmt
     Empty : Stmt
     -- the keyword that it begins with, and what stands behind it; `Rows` says which there are
     Row : (word : List ℕ) → Pieces → Stmt
@@ -194,30 +220,38 @@ pack_stmts (s ∷ ss) = stmt_then s (pack_stmts ss)
 
 -- ---- methods (JLS 8.4, 8.8)
 
--- names joined by `.`, and the tokens of the parentheses, these included
-pub record Annotation : Type 0 where
-  pub names : List (List ℕ)
-  pub arguments : List Spelled
-
-pub data Modifier : Type 0 where
-  Word : (text : List ℕ) → Modifier
-  Annotated : Annotation → Modifier
-
 pub data Result : Type 0 where
   NoResult : Result
   VoidResult : Result
   TypeResult : Ty → Result
 
+-- with whether `...` stands before its name, and the number of the `[ ]` behind it
 pub record Parameter : Type 0 where
-  pub is_final : Bool
-  pub annotations : List Annotation
+  pub modifiers : List Modifier
   pub kind : Ty
+  pub any_number : Bool
   pub name : List ℕ
+  pub arrays : ℕ
 
+-- with its bounds
+pub record TypeParameter : Type 0 where
+  pub annotations : List Annotation
+  pub name : List ℕ
+  pub bounds : List Ty
+
+-- in angle brackets, and the modifiers behind these
+pub record TypeParameters : Type 0 where
+  pub items : List TypeParameter
+  pub glued : Bool
+  pub modifiers : List Modifier
+
+-- with the number of the `[ ]` behind its parameters
 pub record Method : Type 0 where
   pub modifiers : List Modifier
+  pub type_parameters : Option TypeParameters
   pub result : Result
   pub name : List ℕ
   pub parameters : List Parameter
+  pub arrays : ℕ
   pub throws : List Ty
   pub body : Stmts

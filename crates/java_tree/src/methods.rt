@@ -1,4 +1,5 @@
 //! Methods and constructors (JLS 8.4, 8.8) and fields (JLS 8.3).
+use crate::apart::Apart;
 use crate::expressions::Initialiser;
 use crate::statements::Statement;
 use crate::types::TypeTree;
@@ -28,23 +29,44 @@ pub enum ResultTree {
     Of(TypeTree),
 }
 
-/// A formal parameter (JLS 8.4.1).
+/// A formal parameter, whether `...` stands before its name, and the number of the `[ ]` behind it (JLS 8.4.1).
 #[derive(Drop)]
 pub struct ParameterTree {
-    pub is_final: bool,
-    pub annotations: Items<AnnotationTree>,
+    pub modifiers: Items<ModifierTree>,
     pub kind: TypeTree,
+    pub any_number: bool,
     pub name: Ident,
+    pub arrays: u32,
 }
 
-/// A method or a constructor with its body. Whether `synchronized` stands among its tokens, and how many these are, is
-/// kept by who reads them, and is no part of what trees are compared by.
+/// A type parameter with its bounds, of which it may have none (JLS 4.4).
+#[derive(Drop)]
+pub struct TypeParameterTree {
+    pub annotations: Items<AnnotationTree>,
+    pub name: Ident,
+    pub bounds: Items<TypeTree>,
+}
+
+/// Type parameters, whether the `>` behind them is glued to the `>` before it, and the modifiers behind that (JLS
+/// 8.4.4).
+#[derive(Drop)]
+pub struct TypeParametersTree {
+    pub items: Items<TypeParameterTree>,
+    pub glued: bool,
+    pub modifiers: Items<ModifierTree>,
+}
+
+/// A method or a constructor with its body, and the number of the `[ ]` behind its parameters. Whether `synchronized`
+/// stands among its tokens, and how many these are, is kept by who reads them, and is no part of what trees are compared
+/// by.
 #[derive(Drop)]
 pub struct MethodTree {
     pub modifiers: Items<ModifierTree>,
+    pub type_parameters: Option<Apart<TypeParametersTree>>,
     pub result: ResultTree,
     pub name: Ident,
     pub parameters: Items<ParameterTree>,
+    pub arrays: u32,
     pub throws: Items<TypeTree>,
     pub body: Items<Statement>,
     pub has_synchronized: bool,

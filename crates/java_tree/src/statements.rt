@@ -1,24 +1,34 @@
 //! Statements (JLS 14).
 use crate::apart::Apart;
 use crate::expressions::{Expression, Initialiser};
+use crate::methods::ModifierTree;
 use crate::types::TypeTree;
-use crate::words::Ident;
+use crate::words::{Ident, Spelled};
 use racer_base::{Items, Place};
 use std::mem::size_of;
 
 /// A declaration of local variables, without its `;` (JLS 14.4).
 #[derive(Drop)]
 pub struct LocalsTree {
-    pub is_final: bool,
+    pub modifiers: Items<ModifierTree>,
     pub kind: TypeTree,
     pub variables: Items<VariableTree>,
 }
 
-/// A variable, with what it begins with.
+/// A variable, with the number of the `[ ]` behind its name, and what it begins with.
 #[derive(Drop)]
 pub struct VariableTree {
     pub name: Ident,
+    pub arrays: u32,
     pub initialiser: Option<Initialiser>,
+}
+
+/// `final T x` in the head of a `for` over the elements of something (JLS 14.14.2).
+#[derive(Drop)]
+pub struct EachTree {
+    pub modifiers: Items<ModifierTree>,
+    pub kind: TypeTree,
+    pub name: Ident,
 }
 
 /// What stands before the first `;` of a `for`; no expressions where nothing does (JLS 14.14.1).
@@ -31,7 +41,7 @@ pub enum StartTree {
 /// `final T x = a` in the parentheses of a `try` (JLS 14.20.3).
 #[derive(Drop)]
 pub struct ResourceTree {
-    pub is_final: bool,
+    pub modifiers: Items<ModifierTree>,
     pub kind: TypeTree,
     pub name: Ident,
     pub value: Expression,
@@ -47,7 +57,7 @@ pub struct ResourcesTree {
 /// `final T | U x` in the parentheses of a `catch` (JLS 14.20).
 #[derive(Drop)]
 pub struct CatchParameterTree {
-    pub is_final: bool,
+    pub modifiers: Items<ModifierTree>,
     pub types: Items<TypeTree>,
     pub name: Ident,
 }
@@ -75,8 +85,8 @@ pub enum Statement {
     While(Apart<Expression>, Box<Statement>),
     /// `for (i; a; u, ..) s` (JLS 14.14.1).
     For(Apart<StartTree>, Option<Apart<Expression>>, Vec<Expression>, Box<Statement>),
-    /// `for (final T x : a) s`, and whether `final` stands (JLS 14.14.2).
-    ForEach(bool, Apart<TypeTree>, Apart<Ident>, Apart<Expression>, Box<Statement>),
+    /// `for (final T x : a) s` (JLS 14.14.2).
+    ForEach(Apart<EachTree>, Apart<Expression>, Box<Statement>),
     /// `synchronized (a) { .. }` (JLS 14.19).
     Sync(Place, Apart<Expression>, Vec<Statement>),
     /// `return;` and `return a;` (JLS 14.17).
@@ -95,6 +105,8 @@ pub enum Statement {
     Labelled(Apart<Ident>, Box<Statement>),
     /// `assert a;` and `assert a : b;` (JLS 14.10).
     Assert(Apart<Expression>, Option<Apart<Expression>>),
+    /// `final class x .. { .. }`, as its tokens (JLS 14.3).
+    LocalClass(Apart<Ident>, Apart<Items<Spelled>>),
     /// `switch (a) { .. }` (JLS 14.11).
     Switch(Apart<Expression>, Vec<GroupTree>),
     /// `try (..) { .. } catch (..) { .. } .. finally { .. }` (JLS 14.20).

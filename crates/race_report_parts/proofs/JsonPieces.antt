@@ -24,8 +24,8 @@ use Rattle.race_report_parts.specs.Pieces.{summaries_text}
 pub one : decimal 1 ≡ codes "1"
 one = decimal_digit 1 (lit< tt)
 
-profile : decimal 4 ≡ codes "4"
-profile = decimal_digit 4 (lit< tt)
+profile : decimal 5 ≡ codes "5"
+profile = decimal_digit 5 (lit< tt)
 
 pub two_told : decimal 2 ≡ codes "2"
 two_told = decimal_digit 2 (lit< tt)
@@ -43,9 +43,9 @@ each_place core places = ap values (one_by_one core places)
 first_pieces : (c f m : ℕ) (na sk : Data) (others : Members) →
     compact_text (object (member (codes "classes") (count c) (member (codes "files") (count f)
     (member (codes "methods") (count m) (member (codes "not_analysed") na
-    (member (codes "profile") (count 4) (member (codes "skipped") sk others))))))) ≡
+    (member (codes "profile") (count 5) (member (codes "skipped") sk others))))))) ≡
     codes "{\"classes\":" ++ decimal c ++ codes ",\"files\":" ++ decimal f ++ codes ",\"methods\":" ++ decimal m
-    ++ codes ",\"not_analysed\":" ++ compact_text na ++ codes ",\"profile\":4,\"skipped\":" ++ compact_text sk
+    ++ codes ",\"not_analysed\":" ++ compact_text na ++ codes ",\"profile\":5,\"skipped\":" ++ compact_text sk
     ++ members_text true others
 unfolding serde_json_on_literals
 first_pieces c f m na sk others = simp (profile, append_assoc)
@@ -65,10 +65,10 @@ grouped a b c d e rest = simp append_assoc
 
 grouped_first : (core : Core) (rest : List ℕ) → first_text core ++ rest ≡
     counts_text core ++ codes ",\"not_analysed\":" ++ not_analysed_text core
-    ++ codes ",\"profile\":4,\"skipped\":" ++ places_strings core core.skipped ++ rest
+    ++ codes ",\"profile\":5,\"skipped\":" ++ places_strings core core.skipped ++ rest
 grouped_first core rest =
     grouped (counts_text core) (codes ",\"not_analysed\":") (not_analysed_text core)
-    (codes ",\"profile\":4,\"skipped\":") (places_strings core core.skipped) rest
+    (codes ",\"profile\":5,\"skipped\":") (places_strings core core.skipped) rest
 
 -- the member of the summaries
 pub summaries_told : (core : Core) (old named new : Written) → Puts (codes ",\"summaries\":") old named →
@@ -101,7 +101,7 @@ whole_texts core summaries found old start two new all first asked last =
     let whole : Data → List ℕ = λ (d : Data).
     compact_text (object (member (codes "classes") (count (length core.classes))
     (member (codes "files") (count (length core.files)) (member (codes "methods") (count (length core.methods))
-    (member (codes "not_analysed") na (member (codes "profile") (count 4) (member (codes "skipped") d others))))))) in
+    (member (codes "not_analysed") na (member (codes "profile") (count 5) (member (codes "skipped") d others))))))) in
     last
     ∙ ap (λ (ws : List Warning). two ++ last_text core ws) all
     ∙ ap (λ t. two ++ t) (sym (last_pieces w))

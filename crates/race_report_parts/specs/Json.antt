@@ -106,7 +106,7 @@ report_value summaries core =
     (member (codes "files") (count (length core.files))
     (member (codes "methods") (count (length core.methods))
     (member (codes "not_analysed") (values (flat_map (not_analysed_values core) (enumerate_from 0 core.methods)))
-    (member (codes "profile") (count 4)
+    (member (codes "profile") (count 5)
     (member (codes "skipped") (values (map (place_value core) core.skipped))
     (with_summaries summaries core
     (member (codes "warnings") (values (flat_map (warning_values core) (warnings core))) no_members))))))))

@@ -185,7 +185,7 @@ warnings_text core found = compact_text (values (flat_map (warning_values core) 
 abbrev pub first_text : Core → List ℕ
 first_text core =
     counts_text core ++ codes ",\"not_analysed\":" ++ not_analysed_text core
-    ++ (codes ",\"profile\":4,\"skipped\":" ++ places_strings core core.skipped)
+    ++ (codes ",\"profile\":5,\"skipped\":" ++ places_strings core core.skipped)
 
 -- the last member, and the end
 abbrev pub last_text : Core → List Warning → List ℕ

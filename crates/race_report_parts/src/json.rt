@@ -263,7 +263,7 @@ fn push_first(text: &mut Written, program: &Program, outcomes: &Outcomes)
     push_counts(text, program);
     push_text(text, ",\"not_analysed\":");
     push_not_analysed(text, program, outcomes);
-    let before = ",\"profile\":4,\"skipped\":";
+    let before = ",\"profile\":5,\"skipped\":";
     push_place_strings(text, before, program, program.skipped())
 }
 

@@ -123,7 +123,7 @@ const CALLS: &[Case] = &[
     },
     Case {
         words: &["src", "--json"],
-        text: b"{\"classes\":0,\"files\":0,\"methods\":0,\"not_analysed\":[],\"profile\":4,\"skipped\":[],\
+        text: b"{\"classes\":0,\"files\":0,\"methods\":0,\"not_analysed\":[],\"profile\":5,\"skipped\":[],\
           \"warnings\":[]}\n",
         ..PLAIN
     },
@@ -134,7 +134,7 @@ const CALLS: &[Case] = &[
     },
     Case {
         words: &["src", "--json", "--workers", "1", "--history"],
-        text: b"{\"classes\":0,\"files\":0,\"methods\":0,\"not_analysed\":[],\"profile\":4,\"skipped\":[],\
+        text: b"{\"classes\":0,\"files\":0,\"methods\":0,\"not_analysed\":[],\"profile\":5,\"skipped\":[],\
           \"warnings\":[]}\n\
           leave 0\n",
         ..PLAIN
@@ -210,7 +210,7 @@ const SOURCES: &[Case] = &[
     },
     Case {
         words: &["src", "--summaries", "--json"],
-        text: b"{\"classes\":1,\"files\":1,\"methods\":3,\"not_analysed\":[],\"profile\":4,\"skipped\":[],\
+        text: b"{\"classes\":1,\"files\":1,\"methods\":3,\"not_analysed\":[],\"profile\":5,\"skipped\":[],\
           \"summaries\":[{\"accesses\":[],\"method\":\"Dinner.<new>/0\",\"result\":\"this\",\
           \"wobbly\":[]},{\"accesses\":[\"write this.mTemperature at 5:5\"],\
           \"method\":\"Dinner.makeDinner/0\",\"result\":\"unnamed\",\

@@ -2,7 +2,7 @@
 use crate::page::Page;
 use java_tree::{
     AnnotationTree, BaseType, FieldInitialiser, FieldVariable, HeadResult, ModifierTree,
-    ParameterTree, ResultTree, TypeTree,
+    ParameterTree, ResultTree, TypeParametersTree, TypeTree,
 };
 
 /// An annotation: its names, and what stands in its brackets.
@@ -56,11 +56,39 @@ pub fn put_head_result(page: &mut Page, given: &HeadResult) {
     }
 }
 
+/// Each type parameter with its bounds, and the modifiers behind them.
+pub fn put_type_parameters(page: &mut Page, parameters: &TypeParametersTree) {
+    for parameter in parameters.items.as_slice() {
+        page.put(" <");
+        for annotation in parameter.annotations.as_slice() {
+            put_annotation(page, annotation);
+        }
+        page.put_after(" ", parameter.name.text.as_str());
+        for bound in parameter.bounds.as_slice() {
+            put_type(page, bound);
+        }
+        page.put(">");
+    }
+    put_modifiers(page, parameters.modifiers.as_slice());
+}
+
+/// The number of `[ ]` behind a name or behind parameters, where some stand there.
+pub fn put_arrays(page: &mut Page, arrays: u32) {
+    if arrays > 0 {
+        page.put_counted(" []", arrays as usize);
+    }
+}
+
 pub fn put_parameters(page: &mut Page, parameters: &[ParameterTree]) {
     for parameter in parameters {
         page.put(" (");
+        put_modifiers(page, parameter.modifiers.as_slice());
         put_type(page, &parameter.kind);
+        if parameter.any_number {
+            page.put(" ...");
+        }
         page.put_after(" ", parameter.name.text.as_str());
+        put_arrays(page, parameter.arrays);
         page.put(")");
     }
 }

@@ -1,8 +1,8 @@
 //! Classes with their members, a line each.
 use crate::page::Page;
 use crate::trees::{
-    put_annotation, put_head_result, put_modifiers, put_parameters, put_result, put_type,
-    put_variables,
+    put_annotation, put_arrays, put_head_result, put_modifiers, put_parameters, put_result,
+    put_type, put_type_parameters, put_variables,
 };
 use java_lexer::Lexed;
 use java_parser::{let_go, parse_unit};
@@ -20,9 +20,13 @@ fn put_field(page: &mut Page, field: &FieldTree) {
 fn put_method(page: &mut Page, method: &MethodTree) {
     page.put_placed("  method ", method.name.place);
     put_modifiers(page, method.modifiers.as_slice());
+    if let Some(parameters) = &method.type_parameters {
+        put_type_parameters(page, parameters.get());
+    }
     put_result(page, &method.result);
     page.put_after(" ", method.name.text.as_str());
     put_parameters(page, method.parameters.as_slice());
+    put_arrays(page, method.arrays);
     page.put_counted(" throws", method.throws.len());
     page.put_counted(" statements", method.body.len());
     page.put("\n");

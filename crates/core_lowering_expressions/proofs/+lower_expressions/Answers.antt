@@ -3,13 +3,13 @@ use Rattle.std.proofs.lemmas.List.{append-nil}
 use Rattle.std.proofs.lemmas.Result.{on_ok_weaker, IfOk-weaker}
 use Rattle.racer_base.specs.declared.ids.Kind.TheVariants.{Plain}
 use Rattle.java_tree.specs.declared.expressions.Expression.TheFolds.{the_lemmas}
-use Rattle.java_tree.specs.View as view
+use Rattle.java_tree.specs.declared.expressions.Expression.{out-Expression}
 use Rattle.java_tree.specs.View.{ty_of}
 use Rattle.java_resolver.specs.Meanings.{field_named}
 use Rattle.core_code.specs.declared.code.Op.TheVariants.{Prim}
 use Rattle.core_lowering_rules.specs.Trees.{Expr, Init, Selected, CallOn, Conditional, pack_exprs}
 use Rattle.core_lowering_rules.specs.TreesOf.{access_of, expr_of, is_assignment, assignment, is_logical, binary}
-use Rattle.core_lowering_rules.specs.TreesOf.{is_count, prefix}
+use Rattle.core_lowering_rules.specs.TreesOf.{is_count, prefix, first_type}
 use Rattle.core_lowering_rules.specs.ValueKinds.{Of, common_kind}
 use Rattle.core_lowering_rules.specs.Context.{op, type_kind}
 use Rattle.core_lowering_rules.specs.Expressions.{code, init_code, init_kind, kind, cast, storage, access_kind}
@@ -26,8 +26,9 @@ use Rattle.core_lowering_expressions.proofs.Joined.{two, arguments-next, argumen
 use Rattle.core_lowering_expressions.proofs.Made.{read-made, assign-made, assign-kind, counted-made, kind-made}
 use Rattle.core_lowering_expressions.proofs.Made.{prefix-code, prefix-kind, operator-made, operator-kind}
 use Rattle.core_lowering_expressions.proofs.Made.{selected-made, selected-same, class-selected, conditional-made}
-use Rattle.core_lowering_expressions.proofs.Made.{call-made, call-kind, on-class, on-class-kind, on-object, on-object-kind}
-use Rattle.core_lowering_expressions.proofs.Made.{new-made, lengths-made, items-made}
+use Rattle.core_lowering_expressions.proofs.Made.{call-made, call-kind, on-class, on-class-kind}
+use Rattle.core_lowering_expressions.proofs.Made.{on-object, on-object-kind}
+use Rattle.core_lowering_expressions.proofs.Made.{new-made, body-made, lengths-made, items-made}
 use Rattle.core_lowering_expressions.proofs.+lower_expressions.Goals as goal
 
 pub expressions::lower_read-returns-clause-code : goal.expressions::lower_read-returns-clause-code
@@ -74,15 +75,15 @@ expressions::lower_cast-returns-clause-code t c =
     let one = code_of c.lower_expression.new.draft in
     on_ok_weaker c.cast.result
     (λ made. two (code_of c.args.draft.now) one (code_of c.cast.new.draft) (code context (expr_of c.args.a.now))
-    (cast context (type_kind context (ty_of c.args.t.now))) c.in_ok-lower_expression.ensures.code
-    (made ∙ ap (λ k. one ++ cast context k) c.type_kind.ensures))
+    (cast context (type_kind context (first_type c.args.types.now))) c.in_ok-lower_expression.ensures.code
+    (made ∙ ap (λ k. one ++ cast context k) c.cast_kind.ensures))
     c.cast.ensures.code
 
 pub expressions::lower_cast-returns-clause-kind : goal.expressions::lower_cast-returns-clause-kind
 expressions::lower_cast-returns-clause-kind t c =
-    IfOk-weaker c.cast.result (λ k. value_kind k ≡ Of c.type_kind.result)
-    (λ k. value_kind k ≡ Of (type_kind c.args.context.now (ty_of c.args.t.now)))
-    (λ k is. is ∙ ap Of c.type_kind.ensures) c.cast.ensures.kind
+    IfOk-weaker c.cast.result (λ k. value_kind k ≡ Of c.cast_kind.result)
+    (λ k. value_kind k ≡ Of (type_kind c.args.context.now (first_type c.args.types.now)))
+    (λ k is. is ∙ ap Of c.cast_kind.ensures) c.cast.ensures.kind
 
 pub expressions::lower_conditional-returns-clause-code : goal.expressions::lower_conditional-returns-clause-code
 expressions::lower_conditional-returns-clause-code t c =
@@ -112,10 +113,11 @@ pub invocations::lower_new-returns-clause-code : goal.invocations::lower_new-ret
 invocations::lower_new-returns-clause-code t c =
     on_ok_weaker c.finish_new.result
     (new-made c.args.context.now c.args.place (ty_of c.args.t.now) c.in_ok-maker.maker c.args.arguments.now
-    c.made_kinds.result.now (length c.args.arguments.now) (length c.args.arguments.now) (code_of
-    c.args.draft.now) (code_of c.begin_new.new.draft)
-    (code_of c.lower_arguments.new.draft) (code_of c.finish_new.new.draft) refl refl
-    c.in_ok-maker.ensures.maker c.in_ok-maker.ensures.code c.made_kinds.ensures c.in_ok-lower_arguments.ensures)
+    c.made_kinds-kinds.result.now c.in_ok-count.count c.in_ok-count.count (code_of c.args.draft.now)
+    (code_of c.begin_new.new.draft) (code_of c.lower_arguments.new.draft) (code_of c.finish_new.new.draft)
+    c.in_ok-count.ensures c.in_ok-count.ensures
+    c.in_ok-maker.ensures.maker c.in_ok-maker.ensures.code c.made_kinds-kinds.ensures
+    c.in_ok-lower_arguments.ensures)
     c.finish_new.ensures.code
 
 pub expressions::lower_lengths-returns-clause-code : goal.expressions::lower_lengths-returns-clause-code
@@ -170,7 +172,7 @@ expressions::lower_selected-returns-clause-storage t c =
 pub expressions::lower_storage-returns-in_default-clause-code :
     goal.expressions::lower_storage-returns-in_default-clause-code
 expressions::lower_storage-returns-in_default-clause-code t c =
-    let other : is_access (view.expr_of c.args.e.now) ≡ false = search (rules, the_lemmas) in
+    let other : is_access (out-Expression c.args.e.now) ≡ false = search (rules, the_lemmas) in
     let old = code_of c.args.draft.now in
     sym (append-nil old)
     ∙ ap (λ a. old ++ base_of (storage c.args.context.now a)) (no-access c.args.e.now other)
@@ -178,7 +180,7 @@ expressions::lower_storage-returns-in_default-clause-code t c =
 pub expressions::lower_storage-returns-in_default-clause-storage :
     goal.expressions::lower_storage-returns-in_default-clause-storage
 expressions::lower_storage-returns-in_default-clause-storage t c =
-    let other : is_access (view.expr_of c.args.e.now) ≡ false = search (rules, the_lemmas) in
+    let other : is_access (out-Expression c.args.e.now) ≡ false = search (rules, the_lemmas) in
     ap (λ a. without_base (storage c.args.context.now a)) (no-access c.args.e.now other)
 
 pub expressions::lower_assign-returns-clause-code : goal.expressions::lower_assign-returns-clause-code
@@ -404,3 +406,11 @@ expressions::lower_initialiser-returns-in-Value-clause-kind t c =
     subst (λ (v : Init). IfOk c.lower_expression.result (λ k. value_kind k ≡ init_kind c.args.context.now v))
     (sym (is_value c.args.initialiser.now c.in-Value.e c.in-Value.is))
     c.lower_expression.ensures.kind
+
+pub invocations::lower_body-returns-clause-code : goal.invocations::lower_body-returns-clause-code
+invocations::lower_body-returns-clause-code t c =
+    on_ok_weaker c.value.result
+    (body-made c.args.context.now c.args.place (ty_of c.args.t.now) c.args.arguments.now c.in_ok-count.count
+    (code_of c.args.draft.now) (code_of c.lower_arguments.new.draft) (code_of c.value.new.self)
+    c.in_ok-count.ensures c.in_ok-lower_arguments.ensures)
+    c.value.ensures.code

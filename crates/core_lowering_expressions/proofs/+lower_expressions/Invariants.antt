@@ -69,3 +69,18 @@ decreases-expressions::lower_conditional l =
 
 abbrev pub decreases-invocations::lower_call_on : goal.decreases-invocations::lower_call_on
 decreases-invocations::lower_call_on l = 8 * (max (size-Expression l.e.now) (most size-Expression l.arguments.now)) + 6
+
+abbrev pub decreases-invocations::lower_body : goal.decreases-invocations::lower_body
+decreases-invocations::lower_body l = 8 * goal.size-invocations::lower_body l + 4
+
+abbrev pub decreases-expressions::lower_referred : goal.decreases-expressions::lower_referred
+decreases-expressions::lower_referred l = 8 * goal.size-expressions::lower_referred l + 3
+
+abbrev pub decreases-expressions::lower_reference : goal.decreases-expressions::lower_reference
+decreases-expressions::lower_reference l = 8 * goal.size-expressions::lower_reference l + 1
+
+abbrev pub decreases-invocations::lower_called : goal.decreases-invocations::lower_called
+decreases-invocations::lower_called l = 8 * goal.size-invocations::lower_called l + 0
+
+abbrev pub decreases-invocations::lower_made : goal.decreases-invocations::lower_made
+decreases-invocations::lower_made l = 8 * goal.size-invocations::lower_made l + 0

@@ -166,6 +166,9 @@ tries::lower_try-returns-in_ok-lower_first-in-None-clause-code =
 pub tries::lower_locked-lower_block-requires : goal.tries::lower_locked-lower_block-requires
 tries::lower_locked-lower_block-requires = tries.tries::lower_locked-lower_block-requires
 
+pub tries::lower_locked-pass_clauses-requires : goal.tries::lower_locked-pass_clauses-requires
+tries::lower_locked-pass_clauses-requires = tries.tries::lower_locked-pass_clauses-requires
+
 pub tries::lower_locked-returns-clause-context : goal.tries::lower_locked-returns-clause-context
 tries::lower_locked-returns-clause-context = tries.tries::lower_locked-returns-clause-context
 

@@ -3,8 +3,10 @@ ghost use Rattle.std.specs.Prelude.{◌≡◌, List, [], IsTrue};
 ghost use Rattle.java_tree.specs.Trees.{Ty, Expr, Array, Init, Variable, Stmt, Method};
 ghost use Rattle.java_tree.specs.Spelling.{commas_onto, variable_onto};
 ghost use Rattle.java_tree.specs.Spelling.{ty_onto, expr_onto, array_onto, init_onto, stmt_onto, spelling};
-ghost use Rattle.java_tree.specs.Formed.{Each, has_some, FormedVariable};
-ghost use Rattle.java_tree.specs.Formed.{FormedTy, FormedExpr, FormedArray, FormedInit, FormedStmt, FormedMethod};
+ghost use Rattle.java_tree.specs.FormedModifiers.{Each, has_some};
+ghost use Rattle.java_tree.specs.Formed.{FormedVariable};
+ghost use Rattle.java_tree.specs.FormedMethods.{FormedMethod};
+ghost use Rattle.java_tree.specs.Formed.{FormedTy, FormedExpr, FormedArray, FormedInit, FormedStmt};
 
 /// Two formed types with one spelling are equal.
 pub fn one_type()

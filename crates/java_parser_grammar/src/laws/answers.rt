@@ -1,5 +1,5 @@
 //! What files, heads and fields are read as.
-ghost use Rattle.std.specs.Prelude.{◌≡◌, [], ◌∷◌, ◌++◌, codes};
+ghost use Rattle.std.specs.Prelude.{◌≡◌, [], ◌∷◌, ◌++◌, Some, codes};
 ghost use Rattle.java_tree.specs.declared.expressions.Initialiser.{Initialiser};
 ghost use Rattle.java_tree.specs.declared.methods.FieldVariable.{FieldVariable};
 ghost use Rattle.java_tree.specs.declared.methods.FieldInitialiser.TheVariants.{Formed};
@@ -30,7 +30,7 @@ pub fn unknown_results()
 /// A variable with what it begins with.
 pub fn variable_with_a_tree()
     ensures { (v : FieldVariable) (i : Initialiser) → v.name.text ≡ codes "x" → v.name.place ≡ at 1
-        → v.initialiser ≡ Formed i → init_of i ≡ Value (Name (codes "y")) → init_places i [] ≡ at 5 ∷ []
+        → v.initialiser ≡ Formed i → init_of i ≡ Value (Name (codes "y")) → init_places i [] ≡ Some (at 5) ∷ []
         → IsVariable (line (codes "x = y")) v }
 {}
 

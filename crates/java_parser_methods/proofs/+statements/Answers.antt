@@ -1,9 +1,11 @@
 mod Rows
-use Rattle.std.proofs.Common.{◌≡◌, ℕ, true, false, length, suc, ◌+◌, ◌-◌, ◌++◌, ◌∷◌, [], map, refl, sym, ap}
+use Rattle.std.proofs.Common.{◌≡◌, ℕ, true, false, length, suc, ◌+◌, ◌-◌, ◌++◌, ◌∷◌, [], map, refl, sym, ap, Some}
+use Rattle.std.proofs.Common.{option_map}
 use Rattle.std.proofs.Common.{◌∙◌, arith}
 use Rattle.std.proofs.lemmas.Result.{err_from_is_err_and}
 use Rattle.std.proofs.lemmas.List.{map_push}
-use Rattle.java_tree.specs.KeptPlaces.{kept, expr_places, stmt_places}
+use Rattle.java_tree.specs.KeptPlaces.{Places, Puts, kept, expr_places, stmt_places, each_puts, maybe_puts}
+use Rattle.java_tree.specs.KeptPlaces.{resources_places}
 use Rattle.java_parser_types.proofs.PutPlaces.{one_put}
 use Rattle.java_tree.specs.View.{stmt_of}
 use Rattle.java_parser_grammar.specs.StatementReading.{braces_at, by_lead, stmt_at, block_at, body_at, condition_at}
@@ -18,10 +20,15 @@ use Rattle.java_parser_methods.proofs.ForHeads.{for_is_headed}
 use Rattle.java_parser_types.proofs.ReadLoops.{ends_give}
 use Rattle.java_parser_methods.proofs.StatementLoops.{statement_goes_on, statement_fails, statements_end}
 use Rattle.java_parser_methods.proofs.StatementLoops.{statements_run_out, stmt_within, block_within}
+use Rattle.java_parser_methods.proofs.StatementParts.{catch_led, group_led}
 use Rattle.java_tree.specs.Formed.{is_body}
 use Rattle.java_parser_methods.specs.HeadView.{head_places}
-use Rattle.java_parser_methods.proofs.PassedOn.{puts_back, within_back, tested_no, tested_yes}
+use Rattle.java_parser_methods.proofs.PassedOn.{within_back, tested_no, tested_yes}
 use Rattle.java_parser_methods.proofs.+statements.Goals as goal
+use Rattle.java_parser_types.proofs.LedMarks.{both_led, led_made, some_led, led_on, from_equal, led_made_through}
+use Rattle.java_parser_types.proofs.LedMarks.{part_led, read_from}
+use Rattle.java_parser_lookahead.specs.StatementLeadView.{word_onto}
+use Rattle.java_parser_methods.specs.TryView.{parts_places}
 use Rattle.java_parser_methods.proofs.+statements.Answers.Rows as rows
 
 pub statements::braces-returns-in-Some-clause-gives : goal.statements::braces-returns-in-Some-clause-gives
@@ -51,8 +58,8 @@ statements::braces-loop-preserved t c =
           (map spelled c.args.tokens.now)) c.args.tokens.now c.loop.counter (map stmt_of c.loop.items.items)
           (stmt_of n) (map spelled c.loop.rest.now) (map spelled c.in_ok-next.after.now) c.loop-test.true
           c.in_default.ensures.gives c.in_ok-next.ensures.gives c.loop.invariant.gives);
-      places = rw c.in_ok-push_tree.ensures.items (one_put stmt_places c.loop.items.items n (kept c.loop.rest.now)
-          (kept c.in_ok-next.after.now) _ c.in_ok-next.ensures.places c.loop.invariant.places);
+      places = rw c.in_ok-push_tree.ensures.items (one_put stmt_places c.loop.items.items n (kept c.args.tokens.now)
+          (kept c.loop.rest.now) (kept c.in_ok-next.after.now) c.in_ok-next.ensures.places c.loop.invariant.places);
       shorter = omega (arith, c.in_ok-next.ensures.shorter);
     }
 
@@ -177,10 +184,17 @@ statements::for_statement-returns-clause-gives t c = rw (c.in_ok-head.ensures.gi
 -- ---- places, and how many tokens are left
 
 pub statements::synchronized-returns-clause-places : goal.statements::synchronized-returns-clause-places
-statements::synchronized-returns-clause-places t c = puts_back c.locked.result
-    (λ x. stmt_places x.0.value (kept x.1.now)) _ _
-    (ap (λ ps. c.args.place ∷ expr_places c.in_ok-lock.lock.value ps) c.in_ok-statements.ensures.places
-    ∙ ap (λ ps. c.args.place ∷ ps) c.in_ok-lock.ensures.places) c.locked.ensures.places
+statements::synchronized-returns-clause-places t c =
+    let lock : Puts = expr_places c.in_ok-lock.lock.value in
+    let block : Puts = each_puts (map stmt_places c.in_ok-statements.statements.items) in
+    let ahead : Places = c.args.place ∷ kept c.args.tokens.now in
+    let left = kept c.in_ok-statements.rest.now in
+    led_made c.locked.result (λ x. stmt_places x.0.value) (λ x. kept x.1.now)
+    (λ rest. Some c.args.place ∷ lock (block rest)) ahead left
+    (both_led (λ rest. Some c.args.place ∷ rest) (λ rest. lock (block rest)) ahead (kept c.args.tokens.now) left
+    (some_led (c.args.place ∷ []) (kept c.args.tokens.now) ahead refl)
+    (both_led lock block (kept c.args.tokens.now) (kept c.in_ok-lock.rest.now) left c.in_ok-lock.ensures.places
+    c.in_ok-statements.ensures.places)) c.locked.ensures.places c.locked.ensures.behind
 
 pub statements::synchronized-returns-clause-shorter : goal.statements::synchronized-returns-clause-shorter
 statements::synchronized-returns-clause-shorter t c = within_back c.locked.result (λ x. length x.1.now) _ _ (omega (
@@ -191,10 +205,12 @@ statements::synchronized-returns-clause-shorter t c = within_back c.locked.resul
     c.locked.ensures.shorter
 
 pub statements::for_statement-returns-clause-places : goal.statements::for_statement-returns-clause-places
-statements::for_statement-returns-clause-places t c = puts_back c.headed.result
-    (λ x. stmt_places x.0.value (kept x.1.now)) _ _
-    (ap (λ ps. head_places c.in_ok-head.head ps) c.in_ok-body.ensures.places ∙ c.in_ok-head.ensures.places)
-    c.headed.ensures.places
+statements::for_statement-returns-clause-places t c =
+    led_made c.headed.result (λ x. stmt_places x.0.value) (λ x. kept x.1.now) (λ rest. (head_places c.in_ok-head.head)
+    ((stmt_places c.in_ok-body.body.value) rest)) (kept c.args.tokens.now) (kept c.in_ok-body.rest.now) (both_led
+    (head_places c.in_ok-head.head) (stmt_places c.in_ok-body.body.value) (kept c.args.tokens.now) (kept
+    c.in_ok-head.rest.now) (kept c.in_ok-body.rest.now) c.in_ok-head.ensures.places c.in_ok-body.ensures.places)
+    c.headed.ensures.places c.headed.ensures.behind
 
 pub statements::for_statement-returns-clause-shorter : goal.statements::for_statement-returns-clause-shorter
 statements::for_statement-returns-clause-shorter t c = within_back c.headed.result (λ x. length x.1.now) _ _ (omega (
@@ -205,11 +221,12 @@ statements::for_statement-returns-clause-shorter t c = within_back c.headed.resu
     c.headed.ensures.shorter
 
 pub statements::while_statement-returns-clause-places : goal.statements::while_statement-returns-clause-places
-statements::while_statement-returns-clause-places t c = puts_back c.repeated.result
-    (λ x. stmt_places x.0.value (kept x.1.now))
-    _ _
-    (ap (λ ps. expr_places c.in_ok-condition.condition.value ps) c.in_ok-body.ensures.places
-    ∙ c.in_ok-condition.ensures.places) c.repeated.ensures.places
+statements::while_statement-returns-clause-places t c =
+    led_made c.repeated.result (λ x. stmt_places x.0.value) (λ x. kept x.1.now) (λ rest. (expr_places
+    c.in_ok-condition.condition.value) ((stmt_places c.in_ok-body.body.value) rest)) (kept c.args.tokens.now) (kept
+    c.in_ok-body.rest.now) (both_led (expr_places c.in_ok-condition.condition.value) (stmt_places
+    c.in_ok-body.body.value) (kept c.args.tokens.now) (kept c.in_ok-condition.rest.now) (kept c.in_ok-body.rest.now)
+    c.in_ok-condition.ensures.places c.in_ok-body.ensures.places) c.repeated.ensures.places c.repeated.ensures.behind
 
 pub statements::while_statement-returns-clause-shorter : goal.statements::while_statement-returns-clause-shorter
 statements::while_statement-returns-clause-shorter t c = within_back c.repeated.result (λ x. length x.1.now) _ _
@@ -221,10 +238,12 @@ statements::while_statement-returns-clause-shorter t c = within_back c.repeated.
     c.repeated.ensures.shorter
 
 pub statements::if_statement-returns-clause-places : goal.statements::if_statement-returns-clause-places
-statements::if_statement-returns-clause-places t c = puts_back c.otherwise.result
-    (λ x. stmt_places x.0.value (kept x.1.now)) _ _
-    (ap (λ ps. expr_places c.in_ok-condition.condition.value ps) c.in_ok-then.ensures.places
-    ∙ c.in_ok-condition.ensures.places) c.otherwise.ensures.places
+statements::if_statement-returns-clause-places t c =
+    led_on c.otherwise.result (λ x. stmt_places x.0.value) (λ x. kept x.1.now) (λ rest. (expr_places
+    c.in_ok-condition.condition.value) ((stmt_places c.in_ok-then.then.value) rest)) (kept c.args.tokens.now) (kept
+    c.in_ok-then.rest.now) (both_led (expr_places c.in_ok-condition.condition.value) (stmt_places
+    c.in_ok-then.then.value) (kept c.args.tokens.now) (kept c.in_ok-condition.rest.now) (kept c.in_ok-then.rest.now)
+    c.in_ok-condition.ensures.places c.in_ok-then.ensures.places) c.otherwise.ensures.places
 
 pub statements::if_statement-returns-clause-shorter : goal.statements::if_statement-returns-clause-shorter
 statements::if_statement-returns-clause-shorter t c = within_back c.otherwise.result (λ x. length x.1.now) _ _ (omega (
@@ -235,10 +254,15 @@ statements::if_statement-returns-clause-shorter t c = within_back c.otherwise.re
     c.otherwise.ensures.shorter
 
 pub statements::otherwise-returns-clause-places : goal.statements::otherwise-returns-clause-places
-statements::otherwise-returns-clause-places t c = puts_back c.with_else.result
-    (λ x. stmt_places x.0.value (kept x.1.now)) _ _
-    (ap (λ ps. expr_places c.args.condition.value (stmt_places c.args.then.value ps))
-    (c.in_ok-other.ensures.places ∙ c.in-Some.ensures.places)) c.with_else.ensures.places
+statements::otherwise-returns-clause-places t c =
+    let first : Puts = λ rest. expr_places c.args.condition.value (stmt_places c.args.then.value rest) in
+    let other : Puts = stmt_places c.in_ok-other.other.value in
+    let ahead = kept c.args.tokens.now in
+    let left = kept c.in_ok-other.rest.now in
+    led_made_through c.with_else.result (λ x. stmt_places x.0.value) (λ x. kept x.1.now) first
+    (λ rest. first (other rest)) ahead left (part_led first other ahead left (from_equal other ahead
+    (kept c.in-Some.after.now) left c.in-Some.ensures.places c.in_ok-other.ensures.places)) c.with_else.ensures.places
+    c.with_else.ensures.behind
 
 pub statements::otherwise-returns-clause-shorter : goal.statements::otherwise-returns-clause-shorter
 statements::otherwise-returns-clause-shorter t c = within_back c.with_else.result (λ x. length x.1.now) _ _ (omega (
@@ -262,10 +286,13 @@ statements::body-returns-clause-gives t c =
 
 -- ---- what a call at the end of an arm says
 
-pub statements::by_lead-returns-in-Semicolon-clause-places : goal.statements::by_lead-returns-in-Semicolon-clause-places
+pub statements::by_lead-returns-in-Semicolon-clause-places :
+    goal.statements::by_lead-returns-in-Semicolon-clause-places
 statements::by_lead-returns-in-Semicolon-clause-places t c =
-    puts_back c.empty.result (λ x. stmt_places x.0.value (kept x.1.now)) _ _ c.in-Semicolon.ensures.places
-    c.empty.ensures.places
+    led_made c.empty.result (λ x. stmt_places x.0.value) (λ x. kept x.1.now) (λ rest. rest) (kept c.args.tokens.now)
+    (kept c.in-Semicolon.rest.now) (from_equal (λ rest. rest) (kept c.args.tokens.now) (kept c.in-Semicolon.rest.now)
+    (kept c.in-Semicolon.rest.now) c.in-Semicolon.ensures.places (λ rest a. a)) c.empty.ensures.places
+    c.empty.ensures.behind
 
 pub statements::by_lead-returns-in-Semicolon-clause-shorter :
     goal.statements::by_lead-returns-in-Semicolon-clause-shorter
@@ -275,8 +302,8 @@ statements::by_lead-returns-in-Semicolon-clause-shorter t c =
 
 pub statements::by_lead-returns-in-IfWord-clause-places : goal.statements::by_lead-returns-in-IfWord-clause-places
 statements::by_lead-returns-in-IfWord-clause-places t c =
-    puts_back c.if_statement.result (λ x. stmt_places x.0.value (kept x.1.now)) _ _ c.in-IfWord.ensures.places
-    c.if_statement.ensures.places
+    read_from c.if_statement.result (λ x. stmt_places x.0.value) (λ x. kept x.1.now) (kept c.args.tokens.now) (kept
+    c.in-IfWord.rest.now) c.in-IfWord.ensures.places c.if_statement.ensures.places
 
 pub statements::by_lead-returns-in-IfWord-clause-shorter : goal.statements::by_lead-returns-in-IfWord-clause-shorter
 statements::by_lead-returns-in-IfWord-clause-shorter t c =
@@ -285,8 +312,8 @@ statements::by_lead-returns-in-IfWord-clause-shorter t c =
 
 pub statements::by_lead-returns-in-ForWord-clause-places : goal.statements::by_lead-returns-in-ForWord-clause-places
 statements::by_lead-returns-in-ForWord-clause-places t c =
-    puts_back c.for_statement.result (λ x. stmt_places x.0.value (kept x.1.now)) _ _ c.in-ForWord.ensures.places
-    c.for_statement.ensures.places
+    read_from c.for_statement.result (λ x. stmt_places x.0.value) (λ x. kept x.1.now) (kept c.args.tokens.now) (kept
+    c.in-ForWord.rest.now) c.in-ForWord.ensures.places c.for_statement.ensures.places
 
 pub statements::by_lead-returns-in-ForWord-clause-shorter : goal.statements::by_lead-returns-in-ForWord-clause-shorter
 statements::by_lead-returns-in-ForWord-clause-shorter t c =
@@ -394,3 +421,49 @@ tries::parts-loop-preserved = rows.tries::parts-loop-preserved
 
 pub tries::parts-returns-clause-gives : goal.tries::parts-returns-clause-gives
 tries::parts-returns-clause-gives = rows.tries::parts-returns-clause-gives
+
+pub statements::otherwise-returns-in_default-clause-places : goal.statements::otherwise-returns-in_default-clause-places
+statements::otherwise-returns-in_default-clause-places t c =
+    led_made_through c.without_else.result (λ x. stmt_places x.0.value) (λ x. kept x.1.now) (λ rest. expr_places
+    c.args.condition.value (stmt_places c.args.then.value rest)) (λ rest. expr_places c.args.condition.value
+    (stmt_places c.args.then.value rest)) (kept c.args.tokens.now) (kept c.args.tokens.now) (λ start given. given)
+    c.without_else.ensures.places c.without_else.ensures.behind
+
+pub statements::by_lead-returns-in-Class-clause-places : goal.statements::by_lead-returns-in-Class-clause-places
+statements::by_lead-returns-in-Class-clause-places t c =
+    read_from c.class_statement.result (λ x. stmt_places x.0.value) (λ x. kept x.1.now) (kept c.args.tokens.now) (kept
+    c.in-Class.rest.now) c.in-Class.ensures.places c.class_statement.ensures.places
+
+pub statements::by_lead-returns-in-Row-clause-places : goal.statements::by_lead-returns-in-Row-clause-places
+statements::by_lead-returns-in-Row-clause-places t c =
+    read_from c.row.result (λ x. stmt_places x.0.value) (λ x. kept x.1.now) (kept c.args.tokens.now) (word_onto
+    c.in-Row.word c.in-Row.place (kept c.in-Row.rest.now)) c.in-Row.ensures.places c.row.ensures.places
+
+pub statements::by_lead-returns-in-Label-clause-places : goal.statements::by_lead-returns-in-Label-clause-places
+statements::by_lead-returns-in-Label-clause-places t c =
+    read_from c.label_statement.result (λ x. stmt_places x.0.value) (λ x. kept x.1.now) (kept c.args.tokens.now)
+    (c.in-Label.name.now.place ∷ kept c.in-Label.rest.now) c.in-Label.ensures.places c.label_statement.ensures.places
+
+pub tries::clause-returns-clause-places : goal.tries::clause-returns-clause-places
+tries::clause-returns-clause-places t c =
+    catch_led c.in_ok-parameter.parameter c.in_ok-body.body (kept c.args.tokens.now) (kept c.in_ok-parameter.rest.now)
+    (kept c.in_ok-body.rest.now) c.in_ok-parameter.ensures.places c.in_ok-body.ensures.places
+
+pub switches::group-returns-clause-places : goal.switches::group-returns-clause-places
+switches::group-returns-clause-places t c =
+    rw c.from-labels.ensures (group_led c.in_ok-labels.labels.items c.in_ok-body.body (kept c.args.tokens.now)
+    (kept c.in_ok-labels.rest.now) (kept c.in_ok-body.rest.now) c.in_ok-labels.ensures.places
+    c.in_ok-body.ensures.places)
+
+pub tries::try_statement-returns-clause-places : goal.tries::try_statement-returns-clause-places
+tries::try_statement-returns-clause-places t c =
+    let resources : Puts = maybe_puts (option_map resources_places c.in_ok-resources.resources) in
+    let block : Puts = each_puts (map stmt_places c.in_ok-body.body.items) in
+    let parts : Puts = parts_places c.in_ok-parts.parts in
+    let ahead = kept c.args.tokens.now in
+    let at = kept c.in_ok-resources.rest.now in
+    let left = kept c.in_ok-parts.rest.now in
+    led_made c.tried.result (λ x. stmt_places x.0.value) (λ x. kept x.1.now) (λ rest. resources (block (parts rest)))
+    ahead left (both_led resources (λ rest. block (parts rest)) ahead at left c.in_ok-resources.ensures.places
+    (both_led block parts at (kept c.in_ok-body.rest.now) left c.in_ok-body.ensures.places
+    c.in_ok-parts.ensures.places)) c.tried.ensures.places c.tried.ensures.behind

@@ -7,6 +7,7 @@ use Rattle.java_parser_grammar.specs.StatementReading.{groups_at, pieces_at}
 use Rattle.java_parser_grammar.specs.JavaReaders.{method_readers}
 use Rattle.java_parser_methods.specs.TryView.{block_of, parts_places}
 use Rattle.java_parser_methods.specs.RowReading.{groups_finished, parts_at, parts_finished, parts_left}
+use Rattle.java_parser_types.specs.LedPlaces.{Leads}
 use Rattle.java_parser_types.specs.Tokens.{spelled}
 use Rattle.java_parser_types.specs.Finishing.{finished}
 use Rattle.java_parser_types.specs.Endings.{as_they_are, block_end}
@@ -17,7 +18,7 @@ invariant-statements::braces-loop l = record {
   gives : finished block_end (map stmt_of l.items.items) (stmts_at method_readers (stmt_at method_readers l.limit)
       (length (map spelled l.tokens) - l.counter) (map spelled l.rest)) ≡ braces_at method_readers
       (stmt_at method_readers l.limit) (map spelled l.tokens);
-  places : each_puts (map stmt_places l.items.items) (kept l.rest) ≡ kept l.tokens;
+  places : Leads (each_puts (map stmt_places l.items.items)) (kept l.tokens) (kept l.rest);
   shorter : length l.rest ≤ length l.tokens;
 }
 
@@ -27,7 +28,7 @@ invariant-switches::group_statements-loop l = record {
       (stmt_at method_readers l.limit) (suc (length (map spelled l.tokens)) - l.counter) (map spelled l.rest))
       ≡ group_stmts_at method_readers (stmt_at method_readers l.limit) (suc (length (map spelled l.tokens)))
       (map spelled l.tokens);
-  places : each_puts (map stmt_places l.items.items) (kept l.rest) ≡ kept l.tokens;
+  places : Leads (each_puts (map stmt_places l.items.items)) (kept l.tokens) (kept l.rest);
   few : l.counter ≤ length l.tokens;
   shorter : length l.rest ≤ length l.tokens;
 }
@@ -37,7 +38,7 @@ invariant-switches::groups-loop l = record {
   gives : groups_finished (map group_of l.items.items) (groups_at method_readers (stmt_at method_readers l.limit)
       l.limit (length (map spelled l.tokens) - l.counter) (map spelled l.rest)) ≡ groups_at method_readers
       (stmt_at method_readers l.limit) l.limit (length (map spelled l.tokens)) (map spelled l.tokens);
-  places : each_puts (map group_places l.items.items) (kept l.rest) ≡ kept l.tokens;
+  places : Leads (each_puts (map group_places l.items.items)) (kept l.tokens) (kept l.rest);
   shorter : length l.rest ≤ length l.tokens;
 }
 
@@ -48,7 +49,7 @@ invariant-tries::parts-loop l = record {
       (block_at method_readers l.limit) (suc (length (map spelled l.tokens)) - l.counter)
       (option_map block_of l.parts.last) (map spelled l.rest)) ≡ parts_at method_readers
       (stmt_at method_readers l.limit) (block_at method_readers l.limit) l.limit (map spelled l.tokens);
-  places : parts_places l.parts (kept l.rest) ≡ kept l.tokens;
+  places : Leads (parts_places l.parts) (kept l.tokens) (kept l.rest);
   few : l.counter + length l.rest ≤ length l.tokens;
 }
 

@@ -39,24 +39,28 @@ pub fn methods_of_heads()
       name = codes "f";
       place = at 9;
       parameters = kind.Other ∷ kind.Other ∷ [];
+      any_number = false;
       result = kind.Plain;
       is_static = true;
       is_private = false;
       is_constructor = false;
       main = false;
       not_thread_safe = false;
+      hidden = [];
     } ∷ [] }
     ensures constructor { member_methods [] (class 0) (outside (codes "<new>") 9 head.Constructor false) ≡ record {
       class = class 0;
       name = codes "<new>";
       place = at 9;
       parameters = kind.Other ∷ kind.Other ∷ [];
+      any_number = false;
       result = kind.Declared (class 0);
       is_static = false;
       is_private = false;
       is_constructor = true;
       main = false;
       not_thread_safe = false;
+      hidden = [];
     } ∷ [] }
     ensures unknown { map (λ (m : MethodInfo). m.result) (member_methods [] (class 0)
         (outside (codes "f") 9 head.Unknown false)) ≡ kind.Other ∷ [] }

@@ -21,7 +21,7 @@ pub fn fields_of_declarations()
           class = class 1;
           name = codes "x";
           place = at 5;
-          kind = kind_of [] (ty_of (int 0));
+          kind = kind_of [] [] (ty_of (int 0));
           is_static = true;
           is_final = false;
           is_volatile = true;
@@ -43,13 +43,15 @@ pub fn methods_of_trees()
           class = class 1;
           name = codes "f";
           place = at 9;
-          parameters = kind_of [] (ty_of (int 0)) ∷ [];
-          result = kind_of [] (ty_of (int 1));
+          parameters = kind_of [] [] (ty_of (int 0)) ∷ [];
+          any_number = false;
+          result = kind_of [] [] (ty_of (int 1));
           is_static = true;
           is_private = true;
           is_constructor = false;
           main = false;
           not_thread_safe = false;
+          hidden = [];
         } }
     ensures constructor { method_info [] (class 1)
         (method_tree (words (codes "static" ∷ [])) Constructor (codes "A") [])
@@ -58,12 +60,14 @@ pub fn methods_of_trees()
           name = codes "<new>";
           place = at 9;
           parameters = [];
+          any_number = false;
           result = kind.Declared (class 1);
           is_static = false;
           is_private = false;
           is_constructor = true;
           main = false;
           not_thread_safe = false;
+          hidden = [];
         } }
     ensures main { (method_info [] (class 0) (method_tree
         (Annotated (annotation (codes "p" ∷ codes "MainThread" ∷ [])) ∷ []) Void (codes "f") [])).main ≡ true }

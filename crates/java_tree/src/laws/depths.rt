@@ -1,12 +1,13 @@
 //! What counts for the nesting of a tree.
+ghost use Rattle.java_tree.specs.Examples.{call_on, cast, for_each};
 ghost use Rattle.std.specs.Prelude.{◌≡◌, [], ◌∷◌, codes, true, false, Some, None};
 ghost use Rattle.java_lexer.specs.declared.token.TokenKind.TheVariants as kind;
 ghost use Rattle.java_tree.specs.Trees.{Typed, Named, no_part, part_then, Bare, Generic, Angled, no_argument};
 ghost use Rattle.java_tree.specs.Trees.{argument_then, Exact, Any, Extends, Super, Assign, Conditional, Binary};
-ghost use Rattle.java_tree.specs.Trees.{InstanceOf, Prefix, Cast, Literal, This, Paren, Field, Index, Call, CallOn};
+ghost use Rattle.java_tree.specs.Trees.{InstanceOf, Prefix, Literal, This, Paren, Field, Index, Call};
 ghost use Rattle.java_tree.specs.Trees.{ClassOf, New, NewArray, NewItems, no_expr, expr_then, Braces, no_init};
 ghost use Rattle.java_tree.specs.Trees.{init_then, Value, Items, Declares, Runs, Block, Local, If, IfElse};
-ghost use Rattle.java_tree.specs.Trees.{For, ForEach, Empty, no_stmt, stmt_then, NoResult};
+ghost use Rattle.java_tree.specs.Trees.{For, Empty, no_stmt, stmt_then, NoResult};
 ghost use Rattle.java_tree.specs.Trees.{TypeResult};
 ghost use Rattle.java_tree.specs.Trees.{Labelled, no_row, row_then, no_group, group_then, Case, Default};
 ghost use Rattle.java_tree.specs.Rows.{While, Do, Return, Break, Continue, Throw, Sync, Switch, Try, Assert};
@@ -52,10 +53,10 @@ pub fn nesting_of_expressions()
         × (expr_nesting (Binary a (codes "+") (Paren b)) ≡ 3) }
     ensures relation { (expr_nesting (InstanceOf (Paren a) class_a) ≡ 3) × (expr_nesting (InstanceOf a a_of_b) ≡ 3) }
     ensures signs { (expr_nesting (Prefix (codes "-") a) ≡ 2) × (expr_nesting a_up ≡ 2) }
-    ensures cast { (expr_nesting (Cast a_of_b a) ≡ 3) × (expr_nesting (Cast (ints 0) (Paren a)) ≡ 3) }
+    ensures cast { (expr_nesting (cast a_of_b a) ≡ 3) × (expr_nesting (cast (ints 0) (Paren a)) ≡ 3) }
     ensures index { (expr_nesting (Index (Paren a) b) ≡ 3) × (expr_nesting (Index a (Paren b)) ≡ 3) }
-    ensures call_on { (expr_nesting (CallOn (Paren a) (codes "f") no_expr) ≡ 3)
-        × (expr_nesting (CallOn a (codes "f") (expr_then b (expr_then (Paren c) no_expr))) ≡ 3) }
+    ensures call_on { (expr_nesting (call_on (Paren a) (codes "f") no_expr) ≡ 3)
+        × (expr_nesting (call_on a (codes "f") (expr_then b (expr_then (Paren c) no_expr))) ≡ 3) }
     ensures object { (expr_nesting (New class_a no_expr) ≡ 2)
         × (expr_nesting (New class_a (expr_then (Paren a) no_expr)) ≡ 3) }
     ensures array { (expr_nesting (NewArray a_of_b (expr_then a no_expr) 5) ≡ 3)
@@ -87,9 +88,9 @@ pub fn nesting_of_statements()
         × (stmt_nesting (For (Runs no_expr) (Some (Paren a)) no_expr Empty) ≡ 3)
         × (stmt_nesting (For (Runs no_expr) None (expr_then f_call (expr_then a_up no_expr)) Empty) ≡ 3)
         × (stmt_nesting (For (Runs no_expr) None no_expr one_deep) ≡ 3) }
-    ensures for_each { (stmt_nesting (ForEach false a_of_b (codes "x") a Empty) ≡ 3)
-        × (stmt_nesting (ForEach false class_a (codes "x") (Paren a) Empty) ≡ 3)
-        × (stmt_nesting (ForEach false class_a (codes "x") a one_deep) ≡ 3) }
+    ensures for_each { (stmt_nesting (for_each false a_of_b (codes "x") a Empty) ≡ 3)
+        × (stmt_nesting (for_each false class_a (codes "x") (Paren a) Empty) ≡ 3)
+        × (stmt_nesting (for_each false class_a (codes "x") a one_deep) ≡ 3) }
     ensures lock { (stmt_nesting (Sync a no_stmt) ≡ 2) × (stmt_nesting (Sync (Paren (Paren a)) no_stmt) ≡ 4) }
     ensures answer { (stmt_nesting (Return (Some a)) ≡ 2) × (stmt_nesting (Return None) ≡ 1)
         × (stmt_nesting Empty ≡ 1) }

@@ -1,9 +1,10 @@
 //! Where expressions cease to be formed: one level too low, one part too many, a part that is not formed.
+ghost use Rattle.java_tree.specs.Examples.{call_on, cast};
 ghost use Rattle.std.specs.Prelude.{[], ◌∷◌, codes, true, false};
 ghost use Rattle.java_lexer.specs.declared.token.TokenKind.TheVariants as kind;
 ghost use Rattle.java_tree.specs.Trees.{Typed, Named, no_part, part_then, Bare, Generic, Angled, no_argument};
 ghost use Rattle.java_tree.specs.Trees.{argument_then, Exact, Any, Assign, Conditional, Binary, InstanceOf, Prefix};
-ghost use Rattle.java_tree.specs.Trees.{Cast, Postfix, Literal, This, Paren, Field, Index, CallOn, ClassOf, New};
+ghost use Rattle.java_tree.specs.Trees.{Postfix, Literal, This, Paren, Field, Index, ClassOf, New};
 ghost use Rattle.java_tree.specs.Trees.{NewArray, NewItems, no_expr, expr_then, Braces, no_init, init_then, Value};
 ghost use Rattle.java_tree.specs.Trees.{Items};
 ghost use Rattle.java_tree.specs.Formed.{FormedExpr};
@@ -11,16 +12,16 @@ ghost use Rattle.java_tree.specs.Examples.{a, b, c, f_call, a_up, no_class, ints
 
 /// Every form but the binary ones.
 pub fn edges_of_expressions()
-    ensures prefix { FormedExpr (Prefix (codes "~") a_up) × FormedExpr (Prefix (codes "!") (Cast (ints 0) a))
+    ensures prefix { FormedExpr (Prefix (codes "~") a_up) × FormedExpr (Prefix (codes "!") (cast (ints 0) a))
         × (¬ FormedExpr (Prefix (codes "--") (Paren a))) × (¬ FormedExpr (Prefix (codes "++") a_up)) }
-    ensures cast { FormedExpr (Cast class_a (Cast (ints 0) (Prefix (codes "-") a)))
-        × FormedExpr (Cast class_a (Prefix (codes "~") a)) × FormedExpr (Cast (ints 1) a_up)
-        × FormedExpr (Cast (ints 0) (Prefix (codes "--") a)) × (¬ FormedExpr (Cast class_a (Prefix (codes "++") a)))
-        × (¬ FormedExpr (Cast (a_of no_argument) a)) }
+    ensures cast { FormedExpr (cast class_a (cast (ints 0) (Prefix (codes "-") a)))
+        × FormedExpr (cast class_a (Prefix (codes "~") a)) × FormedExpr (cast (ints 1) a_up)
+        × FormedExpr (cast (ints 0) (Prefix (codes "--") a)) × (¬ FormedExpr (cast class_a (Prefix (codes "++") a)))
+        × (¬ FormedExpr (cast (a_of no_argument) a)) }
     ensures left { FormedExpr (Assign (Index a b) (codes "+=") (Conditional a b c))
         × (¬ FormedExpr (Assign This (codes "=") b)) × (¬ FormedExpr (Assign a_up (codes "=") b))
         × (¬ FormedExpr (Assign (Prefix (codes "++") a) (codes "=") b))
-        × (¬ FormedExpr (Assign (CallOn a (codes "f") no_expr) (codes "=") b))
+        × (¬ FormedExpr (Assign (call_on a (codes "f") no_expr) (codes "=") b))
         × (¬ FormedExpr (Assign (ClassOf (codes "A" ∷ [])) (codes "=") b))
         × (¬ FormedExpr (Assign (Assign a (codes "=") b) (codes "=") c))
         × (¬ FormedExpr (Assign (Conditional a b c) (codes "=") c)) }
@@ -32,14 +33,14 @@ pub fn edges_of_expressions()
     ensures point { FormedExpr (Field (NewArray (ints 0) (expr_then a no_expr) 0) (codes "x"))
         × FormedExpr (Field (NewItems (ints 0) 1 (Braces no_init false)) (codes "x"))
         × FormedExpr (Field (ClassOf (codes "A" ∷ [])) (codes "x"))
-        × FormedExpr (Field (CallOn (Literal kind.Text (codes "\"c\"")) (codes "f") no_expr) (codes "x"))
-        × (¬ FormedExpr (Field a_up (codes "x"))) × (¬ FormedExpr (Field (Cast class_a a) (codes "x")))
-        × (¬ FormedExpr (CallOn a_up (codes "f") no_expr)) × (¬ FormedExpr (CallOn (Cast class_a a) (codes "f")
-        no_expr)) × (¬ FormedExpr (CallOn a (codes "f") (expr_then b (expr_then no_class no_expr)))) }
+        × FormedExpr (Field (call_on (Literal kind.Text (codes "\"c\"")) (codes "f") no_expr) (codes "x"))
+        × (¬ FormedExpr (Field a_up (codes "x"))) × (¬ FormedExpr (Field (cast class_a a) (codes "x")))
+        × (¬ FormedExpr (call_on a_up (codes "f") no_expr)) × (¬ FormedExpr (call_on (cast class_a a) (codes "f")
+        no_expr)) × (¬ FormedExpr (call_on a (codes "f") (expr_then b (expr_then no_class no_expr)))) }
     ensures bracket { FormedExpr (Index (Index a b) c) × FormedExpr (Index (New class_a no_expr) a)
         × FormedExpr (Index (Paren (NewArray (ints 0) (expr_then a no_expr) 0)) b)
         × FormedExpr (Index (Field (NewArray (ints 0) (expr_then a no_expr) 0) (codes "x")) b)
-        × (¬ FormedExpr (Index a_up b)) × (¬ FormedExpr (Index (Cast class_a a) b))
+        × (¬ FormedExpr (Index a_up b)) × (¬ FormedExpr (Index (cast class_a a) b))
         × (¬ FormedExpr (Index a no_class)) }
     ensures object { FormedExpr
         (New (Typed (Named (part_then (Generic (codes "A") (Angled (argument_then Any no_argument) false))
@@ -55,10 +56,10 @@ pub fn edges_of_expressions()
         × (¬ FormedExpr (NewItems (ints 0) 1 (Braces (init_then (Items (Braces (init_then (Value no_class) no_init)
         false)) no_init) false))) }
     ensures relation { FormedExpr (InstanceOf (InstanceOf a class_a) (ints 0))
-        × (¬ FormedExpr
+        × FormedExpr
         (InstanceOf a
         (Typed (Named (part_then (Bare (codes "a"))
-        (part_then (Generic (codes "A") (Angled (argument_then Any no_argument) false)) no_part))) 0))) }
+        (part_then (Generic (codes "A") (Angled (argument_then Any no_argument) false)) no_part))) 0)) }
     ensures conditional { FormedExpr (Conditional a (Conditional a b c) c)
         × (¬ FormedExpr (Conditional (Conditional a b c) b c)) }
 {}
@@ -66,8 +67,8 @@ pub fn edges_of_expressions()
 /// Operands of operators, one level below what is asked and at it.
 pub fn edges_of_operands()
     ensures prefix { ¬ FormedExpr (Prefix (codes "-") (Binary a (codes "*") b)) }
-    ensures cast { (¬ FormedExpr (Cast (ints 0) (Binary a (codes "*") b)))
-        × (¬ FormedExpr (Cast class_a (Binary a (codes "*") b))) }
+    ensures cast { (¬ FormedExpr (cast (ints 0) (Binary a (codes "*") b)))
+        × (¬ FormedExpr (cast class_a (Binary a (codes "*") b))) }
     ensures conditional { FormedExpr (Conditional (Binary a (codes "||") b) b c) }
     ensures relation_left { FormedExpr (InstanceOf (Binary a (codes "<") b) class_a)
         × (¬ FormedExpr (InstanceOf (Binary a (codes "==") b) class_a)) }

@@ -1,11 +1,12 @@
 //! For each form of types and expressions a tree that is formed and, but of `this` and a name, one or more that are
 //! not formed.
+ghost use Rattle.java_tree.specs.Examples.{call_on, cast};
 ghost use Rattle.std.specs.Prelude.{[], ◌∷◌, codes, true, false};
 ghost use Rattle.java_lexer.specs.declared.token.TokenKind.TheVariants as kind;
 ghost use Rattle.java_tree.specs.Trees.{Typed, Plain, Named, no_part, part_then, Bare, Generic, Angled};
 ghost use Rattle.java_tree.specs.Trees.{no_argument, argument_then, Exact, Any, Extends, Super, Assign};
-ghost use Rattle.java_tree.specs.Trees.{Conditional, Binary, InstanceOf, Prefix, Cast, Postfix, Literal, This};
-ghost use Rattle.java_tree.specs.Trees.{Name, Paren, Field, Index, Call, CallOn, ClassOf, New, NewArray, NewItems};
+ghost use Rattle.java_tree.specs.Trees.{Conditional, Binary, InstanceOf, Prefix, Postfix, Literal, This};
+ghost use Rattle.java_tree.specs.Trees.{Name, Paren, Field, Index, Call, ClassOf, New, NewArray, NewItems};
 ghost use Rattle.java_tree.specs.Trees.{no_expr, expr_then, Braces, no_init, init_then, Value, Items};
 ghost use Rattle.java_tree.specs.Formed.{FormedTy, FormedExpr, FormedArray};
 ghost use Rattle.java_tree.specs.Examples.{a, b, c, f_call, ints, no_type, class_a, only, a_of};
@@ -47,15 +48,15 @@ pub fn formed_operations()
         × (¬ FormedExpr (Conditional a b (Assign b (codes "=") c)))
         × (¬ FormedExpr (Conditional (Assign a (codes "=") b) b c)) }
     ensures relation { FormedExpr (InstanceOf a (Typed (Named (part_then (Bare (codes "A")) no_part)) 1))
-        × (¬ FormedExpr (InstanceOf a (a_of (only class_a))))
+        × FormedExpr (InstanceOf a (a_of (only class_a)))
         × (¬ FormedExpr (InstanceOf (Conditional a b c) class_a)) }
     ensures prefix { FormedExpr (Prefix (codes "-") (Prefix (codes "++") a))
         × (¬ FormedExpr (Prefix (codes "++") (Prefix (codes "++") a)))
         × (¬ FormedExpr (Prefix (codes "!") (Assign a (codes "=") b))) × (¬ FormedExpr (Prefix (codes "*") a)) }
-    ensures cast_to_plain { FormedExpr (Cast (ints 0) (Prefix (codes "-") a))
-        × (¬ FormedExpr (Cast (ints 0) (Conditional a b c))) × (¬ FormedExpr (Cast (ints 1) (Prefix (codes "-") a))) }
-    ensures cast_to_named { FormedExpr (Cast class_a (Prefix (codes "!") a))
-        × (¬ FormedExpr (Cast class_a (Prefix (codes "+") a))) × (¬ FormedExpr (Cast class_a (Prefix (codes "--") a))) }
+    ensures cast_to_plain { FormedExpr (cast (ints 0) (Prefix (codes "-") a))
+        × (¬ FormedExpr (cast (ints 0) (Conditional a b c))) × (¬ FormedExpr (cast (ints 1) (Prefix (codes "-") a))) }
+    ensures cast_to_named { FormedExpr (cast class_a (Prefix (codes "!") a))
+        × (¬ FormedExpr (cast class_a (Prefix (codes "+") a))) × (¬ FormedExpr (cast class_a (Prefix (codes "--") a))) }
     ensures postfix { FormedExpr (Postfix (Index a b) (codes "++")) × (¬ FormedExpr (Postfix (Paren a) (codes "++")))
         × (¬ FormedExpr (Postfix a (codes "+"))) }
 {}
@@ -88,8 +89,8 @@ pub fn formed_primaries()
         × (¬ FormedExpr (Index (Prefix (codes "-") a) b)) }
     ensures call { FormedExpr (Call (codes "f") (expr_then a (expr_then (Assign a (codes "=") b) no_expr)))
         × (¬ FormedExpr (Call (codes "f") (expr_then (Paren (ClassOf [])) no_expr))) }
-    ensures call_on { FormedExpr (CallOn (NewArray (ints 0) (expr_then a no_expr) 0) (codes "f") no_expr)
-        × (¬ FormedExpr (CallOn (Prefix (codes "-") a) (codes "f") no_expr)) }
+    ensures call_on { FormedExpr (call_on (NewArray (ints 0) (expr_then a no_expr) 0) (codes "f") no_expr)
+        × (¬ FormedExpr (call_on (Prefix (codes "-") a) (codes "f") no_expr)) }
     ensures class_of { FormedExpr (ClassOf (codes "a" ∷ codes "b" ∷ [])) × (¬ FormedExpr (ClassOf [])) }
 {}
 

@@ -3,7 +3,8 @@ ghost use Rattle.std.specs.Prelude.{[], ◌∷◌, codes, true, None};
 ghost use Rattle.java_tree.specs.Rows.{Return};
 ghost use Rattle.java_tree.specs.Trees.{Typed, Named, no_part, part_then, Bare, no_argument, Run, Empty};
 ghost use Rattle.java_tree.specs.Trees.{no_stmt, stmt_then, Word, Annotated, NoResult, TypeResult};
-ghost use Rattle.java_tree.specs.Formed.{FormedModifier, FormedParameter, FormedThrown, FormedMethod};
+ghost use Rattle.java_tree.specs.FormedMethods.{FormedModifier, FormedParameter, FormedMethod};
+ghost use Rattle.java_tree.specs.Formed.{FormedThrown};
 ghost use Rattle.java_tree.specs.Examples.{a, ints, no_type, class_a, only, a_of, a_of_b, annotation};
 ghost use Rattle.java_tree.specs.Examples.{bare_annotation, nameless_annotation, parameter, formal, method, void_f};
 

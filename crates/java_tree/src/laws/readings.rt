@@ -1,8 +1,9 @@
 //! Texts and the trees that they stand for.
+ghost use Rattle.java_tree.specs.Examples.{cast};
 ghost use Rattle.std.specs.Prelude.{◌≡◌, List, [], ◌∷◌, codes, true, false};
 ghost use Rattle.java_lexer.specs.declared.token.TokenKind.TheVariants as kind;
 ghost use Rattle.java_tree.specs.declared.words.Spelled.{Spelled};
-ghost use Rattle.java_tree.specs.Trees.{Expr, Assign, Conditional, Binary, Prefix, Cast, Literal, Paren, Local};
+ghost use Rattle.java_tree.specs.Trees.{Expr, Assign, Conditional, Binary, Prefix, Literal, Paren, Local};
 ghost use Rattle.java_tree.specs.Trees.{Run, If, IfElse};
 ghost use Rattle.java_tree.specs.Spelling.{expr_onto, stmt_onto};
 ghost use Rattle.java_tree.specs.Formed.{FormedExpr, begins_signed};
@@ -35,20 +36,20 @@ pub fn else_belongs_to_the_inner_if()
 /// A name in parentheses before a `-` is a left operand, and no cast.
 pub fn named_parentheses_before_a_sign()
     ensures reads { Reads (codes "x = ( a ) - b ;") (assigns (codes "x") (difference (Paren a) b)) }
-    ensures other { ReadsNot (codes "x = ( a ) - b ;") (assigns (codes "x") (Cast (class_named (codes "a"))
+    ensures other { ReadsNot (codes "x = ( a ) - b ;") (assigns (codes "x") (cast (class_named (codes "a"))
         (Prefix (codes "-") b))) }
 {}
 
 /// A primitive type in parentheses before a `-` is a cast, and no left operand.
 pub fn plain_parentheses_before_a_sign()
-    ensures reads { Reads (codes "x = ( int ) - b ;") (assigns (codes "x") (Cast (ints 0) (Prefix (codes "-") b))) }
+    ensures reads { Reads (codes "x = ( int ) - b ;") (assigns (codes "x") (cast (ints 0) (Prefix (codes "-") b))) }
     ensures other { ReadsNot (codes "x = ( int ) - b ;") (assigns (codes "x")
         (difference (Paren (Literal kind.Keyword (codes "int"))) b)) }
 {}
 
 /// A name in parentheses before an operand is a cast to the class of this name.
 pub fn parentheses_before_an_operand()
-    ensures { Reads (codes "x = ( a ) ( b ) ;") (assigns (codes "x") (Cast (class_named (codes "a")) (Paren b))) }
+    ensures { Reads (codes "x = ( a ) ( b ) ;") (assigns (codes "x") (cast (class_named (codes "a")) (Paren b))) }
 {}
 
 /// The last `>` of the type is glued.

@@ -1,11 +1,12 @@
 //! The tokens of each form, as a reader writes them.
+ghost use Rattle.java_tree.specs.Examples.{call_on, for_each};
 ghost use Rattle.std.specs.Prelude.{◌≡◌, [], ◌∷◌, codes, true, false, Some, None};
 ghost use Rattle.java_lexer.specs.declared.token.TokenKind.TheVariants as kind;
 ghost use Rattle.java_tree.specs.Trees.{Typed, Named, no_part, part_then, Bare, Generic, Angled, no_argument};
 ghost use Rattle.java_tree.specs.Trees.{argument_then, Exact, Any, Extends, Super, Assign, Binary, InstanceOf};
-ghost use Rattle.java_tree.specs.Trees.{Postfix, Literal, This, Field, Index, CallOn, ClassOf, New, NewArray};
+ghost use Rattle.java_tree.specs.Trees.{Postfix, Literal, This, Field, Index, ClassOf, New, NewArray};
 ghost use Rattle.java_tree.specs.Trees.{NewItems, no_expr, expr_then, Braces, no_init, init_then, Value, Items};
-ghost use Rattle.java_tree.specs.Trees.{Declares, Runs, Block, Local, For, ForEach, Empty};
+ghost use Rattle.java_tree.specs.Trees.{Declares, Runs, Block, Local, For, Empty};
 ghost use Rattle.java_tree.specs.Trees.{no_stmt, stmt_then, Word, Annotated, NoResult, TypeResult};
 ghost use Rattle.java_tree.specs.Trees.{Run, Labelled, no_row, row_then, no_group, group_then, Case, Default};
 ghost use Rattle.java_tree.specs.Rows.{While, Do, Return, Break, Continue, Throw, Sync, Switch, Try, Assert};
@@ -34,7 +35,7 @@ pub fn spelling_of_expressions()
     ensures three_signs { expr_onto (Binary a (codes ">>>") b) [] ≡ tokens_of (codes "a >>> b") }
     ensures element { expr_onto (Postfix (Index a b) (codes "--")) [] ≡ tokens_of (codes "a [ b ] --") }
     ensures field { expr_onto (Field This (codes "x")) [] ≡ tokens_of (codes "this . x") }
-    ensures calls { expr_onto (CallOn f_call (codes "g") (expr_then a (expr_then (Literal kind.Fixed (codes "null"))
+    ensures calls { expr_onto (call_on f_call (codes "g") (expr_then a (expr_then (Literal kind.Fixed (codes "null"))
         no_expr))) [] ≡ tokens_of (codes "f ( ) . g ( a , null )") }
     ensures class_of { expr_onto (ClassOf (codes "a" ∷ codes "B" ∷ [])) [] ≡ tokens_of (codes "a . B . class") }
     ensures object { expr_onto (New (a_of no_argument) (expr_then a (expr_then b no_expr))) [] ≡ tokens_of
@@ -62,9 +63,9 @@ pub fn spelling_of_statements()
     ensures for_runs { stmt_onto (For (Runs (expr_then a_up (expr_then f_call no_expr))) None no_expr Empty)
         [] ≡ tokens_of (codes "for ( a ++ , f ( ) ; ; ) ;") }
     ensures for_bare { stmt_onto (For (Runs no_expr) None no_expr Empty) [] ≡ tokens_of (codes "for ( ; ; ) ;") }
-    ensures for_each { stmt_onto (ForEach true class_a (codes "x") a (Return None)) [] ≡ tokens_of
+    ensures for_each { stmt_onto (for_each true class_a (codes "x") a (Return None)) [] ≡ tokens_of
         (codes "for ( final A x : a ) return ;") }
-    ensures for_each_bare { stmt_onto (ForEach false (ints 0) (codes "x") a Empty) [] ≡ tokens_of
+    ensures for_each_bare { stmt_onto (for_each false (ints 0) (codes "x") a Empty) [] ≡ tokens_of
         (codes "for ( int x : a ) ;") }
     ensures synchronised { stmt_onto (Sync This (stmt_then Empty (stmt_then (Return None) no_stmt))) [] ≡ tokens_of
         (codes "synchronized ( this ) { ; return ; }") }

@@ -1,10 +1,11 @@
 //! For each form of statements a tree that is formed and, but of the empty statement, one or more that are not.
+ghost use Rattle.java_tree.specs.Examples.{call_on, cast, for_each};
 ghost use Rattle.std.specs.Prelude.{[], ◌∷◌, codes, true, false, Some, None};
 ghost use Rattle.java_lexer.specs.declared.token.TokenKind.TheVariants as kind;
-ghost use Rattle.java_tree.specs.Trees.{no_argument, Assign, Conditional, InstanceOf, Prefix, Cast, Postfix};
-ghost use Rattle.java_tree.specs.Trees.{Literal, This, Paren, Field, Index, Call, CallOn, ClassOf, New, NewArray};
+ghost use Rattle.java_tree.specs.Trees.{no_argument, Assign, Conditional, InstanceOf, Prefix, Postfix};
+ghost use Rattle.java_tree.specs.Trees.{Literal, This, Paren, Field, Index, Call, ClassOf, New, NewArray};
 ghost use Rattle.java_tree.specs.Trees.{NewItems, no_expr, expr_then, Braces, no_init, init_then, Value, Items};
-ghost use Rattle.java_tree.specs.Trees.{Declares, Runs, Block, Local, Run, If, IfElse, For, ForEach};
+ghost use Rattle.java_tree.specs.Trees.{Declares, Runs, Block, Local, Run, If, IfElse, For};
 ghost use Rattle.java_tree.specs.Trees.{Empty, no_stmt, stmt_then};
 ghost use Rattle.java_tree.specs.Rows.{While, Do, Return, Throw, Sync};
 ghost use Rattle.java_tree.specs.Formed.{FormedStmt};
@@ -35,9 +36,9 @@ pub fn formed_statements()
         no_expr) Empty) × (¬ FormedStmt (For (Runs (expr_then a no_expr)) None no_expr Empty))
         × (¬ FormedStmt (For (Runs no_expr) None (expr_then (Paren a) no_expr) Empty))
         × (¬ FormedStmt (For (Runs no_expr) (Some a) no_expr (Local (local_of (ints 0))))) }
-    ensures for_each { FormedStmt (ForEach true (a_of (only class_a)) (codes "x") a Empty)
-        × (¬ FormedStmt (ForEach false (a_of no_argument) (codes "x") a Empty))
-        × (¬ FormedStmt (ForEach false (ints 0) (codes "x") a (Local (local_of (ints 0))))) }
+    ensures for_each { FormedStmt (for_each true (a_of (only class_a)) (codes "x") a Empty)
+        × (¬ FormedStmt (for_each false (a_of no_argument) (codes "x") a Empty))
+        × (¬ FormedStmt (for_each false (ints 0) (codes "x") a (Local (local_of (ints 0))))) }
     ensures synchronised { FormedStmt (Sync (Conditional a b c) (stmt_then Empty no_stmt))
         × (¬ FormedStmt (Sync a (stmt_then (Run a) no_stmt))) }
     ensures return_value { FormedStmt (Return (Some (Assign a (codes "=") b)))
@@ -49,18 +50,18 @@ pub fn formed_statements()
 /// Whether an `else` belongs to an `if` at the end of a statement (JLS 14.5).
 pub fn formed_endings()
     ensures for_loop { ¬ FormedStmt (IfElse a (For (Runs no_expr) None no_expr (If b Empty)) Empty) }
-    ensures for_each { ¬ FormedStmt (IfElse a (ForEach false class_a (codes "x") b (If c Empty)) Empty) }
-    ensures deep { ¬ FormedStmt (IfElse a (IfElse b Empty (For (Runs no_expr) None no_expr (ForEach false class_a
+    ensures for_each { ¬ FormedStmt (IfElse a (for_each false class_a (codes "x") b (If c Empty)) Empty) }
+    ensures deep { ¬ FormedStmt (IfElse a (IfElse b Empty (For (Runs no_expr) None no_expr (for_each false class_a
         (codes "x") b (While c (IfElse a Empty (If b Empty)))))) Empty) }
     ensures inner_else { (¬ FormedStmt (IfElse a (IfElse b (If c Empty) Empty) Empty))
         × FormedStmt (IfElse a (IfElse b Empty Empty) Empty) }
     ensures loops { FormedStmt (IfElse a (While b (IfElse c Empty Empty)) (If b Empty))
         × FormedStmt (IfElse a (For (Runs no_expr) None no_expr Empty) Empty)
-        × FormedStmt (IfElse a (ForEach false class_a (codes "x") b (IfElse c Empty Empty)) Empty) }
+        × FormedStmt (IfElse a (for_each false class_a (codes "x") b (IfElse c Empty Empty)) Empty) }
     ensures closed { FormedStmt (IfElse a (For (Runs no_expr) None no_expr (Block (stmt_then (If b Empty) no_stmt)))
         Empty) × FormedStmt (IfElse a (Sync b (stmt_then (If c Empty) no_stmt)) Empty) }
     ensures last { FormedStmt (IfElse a Empty (If b Empty)) × FormedStmt (If a (While b (If c Empty)))
-        × FormedStmt (For (Runs no_expr) None no_expr (If a Empty)) × FormedStmt (ForEach false class_a (codes "x") a
+        × FormedStmt (For (Runs no_expr) None no_expr (If a Empty)) × FormedStmt (for_each false class_a (codes "x") a
         (If b Empty)) }
 {}
 
@@ -72,11 +73,11 @@ pub fn formed_parts()
         × (¬ FormedStmt (Local (locals false (ints 1) (variable (codes "v") None ∷ variable (codes "w")
         (Some (Items (Braces no_init true))) ∷ [])))) }
     ensures runs { FormedStmt (Run (Assign a (codes "=") b)) × FormedStmt (Run (Prefix (codes "--") a))
-        × FormedStmt (Run (CallOn This (codes "f") no_expr)) × FormedStmt (Run (New class_a no_expr)) }
+        × FormedStmt (Run (call_on This (codes "f") no_expr)) × FormedStmt (Run (New class_a no_expr)) }
     ensures no_runs { (¬ FormedStmt (Run This)) × (¬ FormedStmt (Run (Literal kind.Number (codes "1"))))
         × (¬ FormedStmt (Run (ClassOf (codes "A" ∷ [])))) × (¬ FormedStmt (Run (Field a (codes "x"))))
         × (¬ FormedStmt (Run (Index a b))) × (¬ FormedStmt (Run (InstanceOf a class_a)))
-        × (¬ FormedStmt (Run (Conditional a f_call f_call))) × (¬ FormedStmt (Run (Cast class_a f_call)))
+        × (¬ FormedStmt (Run (Conditional a f_call f_call))) × (¬ FormedStmt (Run (cast class_a f_call)))
         × (¬ FormedStmt (Run (NewItems (ints 0) 1 (Braces no_init false))))
         × (¬ FormedStmt (Run (Call (codes "f") (expr_then no_class no_expr)))) }
     ensures for_head { FormedStmt (For (Runs (expr_then (Assign a (codes "=") b) (expr_then f_call no_expr)))
@@ -85,10 +86,10 @@ pub fn formed_parts()
         × (¬ FormedStmt (For (Runs no_expr) (Some no_class) no_expr Empty))
         × (¬ FormedStmt (For (Runs no_expr) None (expr_then a_up (expr_then b no_expr)) Empty)) }
     ensures conditions { (¬ FormedStmt (If no_class Empty)) × (¬ FormedStmt (IfElse no_class Empty Empty))
-        × (¬ FormedStmt (While no_class Empty)) × (¬ FormedStmt (ForEach false class_a (codes "x") no_class Empty))
+        × (¬ FormedStmt (While no_class Empty)) × (¬ FormedStmt (for_each false class_a (codes "x") no_class Empty))
         × (¬ FormedStmt (Sync no_class no_stmt)) }
     ensures bodies { (¬ FormedStmt (If a (Run b))) × (¬ FormedStmt (IfElse a (Run b) Empty))
         × (¬ FormedStmt (IfElse a Empty (Run b))) × (¬ FormedStmt (While a (Run b)))
-        × (¬ FormedStmt (For (Runs no_expr) None no_expr (Run b))) × (¬ FormedStmt (ForEach false class_a (codes "x")
+        × (¬ FormedStmt (For (Runs no_expr) None no_expr (Run b))) × (¬ FormedStmt (for_each false class_a (codes "x")
         a (Run b))) }
 {}

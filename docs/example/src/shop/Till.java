@@ -39,10 +39,7 @@ public class Till {
 
   public int rate(String text) {
     last = text;
-    IntSupplier read = () -> {
-      return Integer.parseInt(text);
-    };
 
-    return read.getAsInt();
+    return super.hashCode();
   }
 }

@@ -15,8 +15,8 @@ returns-in-Some c =
     let new = c.get_mut.follows.lender all in
     let puts = (c.get_mut.follows.holds all).3 (search rules) in
     on_ok_weaker c.push.result
-    (λ made. changed old new name all (seen_at old name ++ (c.args.id, c.args.kind) ∷ [])
-    (made ∙ ap (λ o. items_in o ++ (c.args.id, c.args.kind) ∷ []) c.in-Some.ensures.value)
+    (λ made. changed old new name all (seen_at old name ++ (c.args.id, c.args.known) ∷ [])
+    (made ∙ ap (λ o. items_in o ++ (c.args.id, c.args.known) ∷ []) c.in-Some.ensures.value)
     (btree_map_updates_text name old new (Some all) puts))
     c.push.ensures
 
@@ -32,9 +32,9 @@ returns c =
     let none : None ≡ get_by_text kept name =
     c.in_default.ensures.value ∙ ap (λ (old : ByName). get_by_text old name) (sym unchanged) in
     let puts = btree_map_updates_text (string_bytes text) kept new (Some all) c.in_ok-insert.ensures.updates in
-    subst (λ (old : ByName). ChangesAt old new name (seen_at old name ++ (c.args.id, c.args.kind) ∷ [])) unchanged
-    (changed kept new name all (seen_at kept name ++ (c.args.id, c.args.kind) ∷ [])
-    (c.in_ok-push.ensures ∙ ap (λ xs. xs ++ (c.args.id, c.args.kind) ∷ []) (c.new-all.ensures.items
+    subst (λ (old : ByName). ChangesAt old new name (seen_at old name ++ (c.args.id, c.args.known) ∷ [])) unchanged
+    (changed kept new name all (seen_at kept name ++ (c.args.id, c.args.known) ∷ [])
+    (c.in_ok-push.ensures ∙ ap (λ xs. xs ++ (c.args.id, c.args.known) ∷ []) (c.new-all.ensures.items
     ∙ ap items_in none))
     (λ (other : List ℕ).
     puts other ∙ ap (λ bs. cond (bytes_eq bs other) (Some all) (get_by_text kept other)) bytes))

@@ -1,9 +1,7 @@
 use Rattle.std.proofs.Common.{List, ◌∷◌, ◌+◌, drop, sym, ap, ◌∙◌}
 use Rattle.std.proofs.lemmas.List.{at_drop_more, at_drop_all}
-use Rattle.racer_base.specs.declared.ids.Kind.{Kind}
 use Rattle.java_tree.specs.declared.methods.ParameterTree.{ParameterTree}
 use Rattle.core_lowering_rules.specs.Context.{Context}
-use Rattle.core_lowering_rules.specs.Scopes.{declared}
 use Rattle.core_lowering_rules.specs.Methods.{parameters_declared}
 use Rattle.core_lowering_context.proofs.entered.declare_parameters.Goals as goal
 
@@ -15,7 +13,7 @@ loop-parameter-preserved c =
     let p : ParameterTree = c.parameter-item.result in
     let rest : List ParameterTree = drop (i + 1) all in
     ap (λ (a : Context). parameters_declared a rest)
-    (c.in_ok-declare.ensures.context ∙ ap (λ (kind : Kind). declared old kind p.name) c.type_kind-kind.ensures)
+    c.in_ok-declare_parameter.ensures
     ∙ ap (λ (q : ParameterTree). parameters_declared old (q ∷ rest)) c.parameter-item.is
     ∙ sym (at_drop_more (parameters_declared old) all i p c.loop-parameter-test.true)
     ∙ c.loop-parameter.invariant

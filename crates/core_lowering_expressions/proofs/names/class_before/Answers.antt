@@ -1,10 +1,10 @@
 use Rattle.std.proofs.Common.{◌≡◌, false, rules}
 use Rattle.java_tree.specs.declared.expressions.Expression.TheFolds.{the_lemmas}
-use Rattle.java_tree.specs.View as view
+use Rattle.java_tree.specs.declared.expressions.Expression.{out-Expression}
 use Rattle.core_lowering_expressions.proofs.OtherForms.{is_name, no-class}
 use Rattle.core_lowering_expressions.proofs.names.class_before.Goals as goal
 
 pub returns-in_default : goal.returns-in_default
 returns-in_default c =
-    let other : is_name (view.expr_of c.args.e.now) ≡ false = search (rules, the_lemmas) in
+    let other : is_name (out-Expression c.args.e.now) ≡ false = search (rules, the_lemmas) in
     no-class c.args.context.now c.args.e.now other

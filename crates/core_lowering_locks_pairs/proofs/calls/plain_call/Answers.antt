@@ -1,5 +1,6 @@
-use Rattle.std.proofs.Common.{None}
+use Rattle.std.proofs.Common.{None, refl}
 use Rattle.core_lowering_rules.specs.Trees.{plain_call}
+use Rattle.core_lowering_rules.proofs.TreeForms.{new-arm}
 use Rattle.core_lowering_locks_pairs.proofs.Operators.{binary-arm, prefix-arm, binary_is_no_call, prefix_is_no_call}
 use Rattle.core_lowering_locks_pairs.proofs.calls.plain_call.Goals as goal
 
@@ -11,3 +12,8 @@ returns-in-Binary c =
 pub returns-in-Prefix : goal.returns-in-Prefix
 returns-in-Prefix c =
     prefix-arm plain_call None prefix_is_no_call c.args.e.now c.in-Prefix.field-0 c.in-Prefix.field-1 c.in-Prefix.is
+
+pub returns-in-New : goal.returns-in-New
+returns-in-New c =
+    new-arm plain_call None (λ place t es. refl) (λ place t es. refl) (λ place es. refl) (λ place is. refl)
+    c.args.e.now c.in-New.field-0 c.in-New.is

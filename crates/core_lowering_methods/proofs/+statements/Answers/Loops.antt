@@ -5,8 +5,8 @@ use Rattle.java_tree.specs.View.{ty_of}
 use Rattle.core_lowering_drafts.specs.Drafts.{has, Exit}
 use Rattle.core_lowering_rules.specs.Trees.{pack_exprs}
 use Rattle.core_lowering_rules.specs.TreesOf.{expr_of, condition_of, start_of, stmt_of}
-use Rattle.core_lowering_rules.specs.Context.{Context, Code, ends_of, type_kind}
-use Rattle.core_lowering_rules.specs.Scopes.{declared, started, in_loop, back_from, after}
+use Rattle.core_lowering_rules.specs.Context.{Context, Code, ends_of}
+use Rattle.core_lowering_rules.specs.Scopes.{declared, of_type, started, in_loop, back_from, after}
 use Rattle.core_lowering_rules.specs.Statements.{stmt}
 use Rattle.core_lowering_context.specs.Drafts.{code_of}
 use Rattle.core_lowering_methods.proofs.LoopCode.{body-made, round-made, while-made, do-made, for-made, elements-made}
@@ -143,14 +143,14 @@ loops::lower_for_each-returns-clause-context t c =
     let a = c.args.context.now in
     let s = stmt_of c.args.s.now in
     let x = c.args.x.now in
-    let kind = type_kind a (ty_of c.args.t.now) in
-    let first = declared a kind x in
+    let kind = ty_of c.args.t.now in
+    let first = of_type a kind 0 x in
     on_ok_weaker c.end_block.result
     (left-made a (back_from first (after (in_loop first) s)) c.lower_elements.new.context c.end_block.new.context
     c.in_scope-before.result c.in_scope-before.ensures
     (c.in_ok-lower_elements.ensures.context
     ∙ ap (λ (y : Context). back_from y (after (in_loop y) s))
-    (c.in_ok-v.ensures.context ∙ ap (λ k. declared a k x) c.type_kind.ensures))
+    (c.in_ok-v.ensures.context ∙ ap (λ k. declared a k x) c.variable_kind.ensures))
     (inside-each a kind x s))
     c.end_block.ensures.context
 
@@ -163,7 +163,7 @@ loops::lower_for_each-returns-clause-code t c =
     (stmt_of c.args.s.now) c.in_ok-v.v (code_of c.args.draft.now) (code_of c.lower_run.new.draft)
     (code_of c.lower_elements.new.draft) (code_of c.end_block.new.draft) c.in_scope-before.result c.len-first.result
     c.in_scope-before.ensures c.len-first.ensures c.in_ok-lower_run.ensures c.in_ok-v.ensures.variable
-    (c.in_ok-v.ensures.context ∙ ap (λ k. declared a k x) c.type_kind.ensures) c.in_ok-lower_elements.ensures.code
+    (c.in_ok-v.ensures.context ∙ ap (λ k. declared a k x) c.variable_kind.ensures) c.in_ok-lower_elements.ensures.code
     c.in_ok-lower_elements.ensures.context)
     c.end_block.ensures.code
 

@@ -2,7 +2,6 @@
 use Rattle.std.proofs.Common.{List, ◌∷◌, ◌++◌, ◌+◌, length, map, drop, sym, ap, ◌∙◌, rules}
 use Rattle.std.proofs.lemmas.List.{at_drop_more, at_drop_all}
 use Rattle.std.proofs.lemmas.Result.{on_ok_weaker, IfOk-from_err}
-use Rattle.racer_base.specs.declared.ids.Kind.TheVariants as types
 use Rattle.java_tree.specs.declared.statements.CatchTree.{CatchTree, out-CatchTree}
 use Rattle.java_tree.specs.declared.statements.Statement.{Statement}
 use Rattle.java_tree.specs.declared.statements.Statement.TheFolds.{the_lemmas}
@@ -14,7 +13,8 @@ use Rattle.core_lowering_rules.specs.Trees as tree
 use Rattle.core_lowering_rules.specs.TreesOf.{expr_of, stmt_of, catch_of}
 use Rattle.core_lowering_rules.specs.Context.{Context, Code}
 use Rattle.core_lowering_rules.specs.Expressions.{code}
-use Rattle.core_lowering_rules.specs.Scopes.{declared, after, after_all, caught}
+use Rattle.core_lowering_rules.specs.Locks.{is_stored_in, lock_noted}
+use Rattle.core_lowering_rules.specs.Scopes.{of_catch, after, after_all, caught}
 use Rattle.core_lowering_rules.specs.Statements.{stmt, stmts}
 use Rattle.core_lowering_locks_pairs.specs.Seen.{body_of, clauses_of, resources_in}
 use Rattle.core_lowering_locks_pairs.proofs.JoinedStatements.{catch-form}
@@ -180,20 +180,27 @@ tries::lower_try-returns-in_ok-lower_first-in-None-clause-code t c =
 
 pub tries::lower_locked-lower_block-requires : goal.tries::lower_locked-lower_block-requires
 tries::lower_locked-lower_block-requires t c =
+    search (rules, sizes, the_size, the_lemmas, c.as_slice-body.ensures, c.decreases)
+
+pub tries::lower_locked-pass_clauses-requires : goal.tries::lower_locked-pass_clauses-requires
+tries::lower_locked-pass_clauses-requires t c =
     search (rules, sizes, the_size, the_lemmas, c.as_slice.ensures, c.decreases)
 
 pub tries::lower_locked-returns-clause-context : goal.tries::lower_locked-returns-clause-context
 tries::lower_locked-returns-clause-context t c =
     let a = c.args.context.now in
     let noted : Context = c.end_locked.new.context in
+    let e = expr_of c.args.lock.on.now in
     on_ok_weaker c.pass_clauses.result
     (λ made. locked-left a c.lower_block.new.context noted c.pass_clauses.new.context c.args.lock.place
-    (expr_of c.args.lock.on.now) (body_of c.args.tried.now) (clauses_of c.args.tried.now)
+    e (body_of c.args.tried.now) (clauses_of c.args.tried.now)
     (c.in_ok-lower_block.ensures.context
-    ∙ ap (λ (xs : List Statement). after a (tree.Block (pack_stmts (map stmt_of xs)))) c.as_slice.ensures.value)
-    c.in_ok-end_locked.ensures.context
+    ∙ ap (λ (xs : List Statement). after a (tree.Block (pack_stmts (map stmt_of xs)))) c.as_slice-body.ensures.value)
+    (c.in_ok-end_locked.ensures.context
+    ∙ ap (λ (xs : List Statement). lock_noted c.lower_block.new.context e
+    (is_stored_in e (pack_stmts (map stmt_of xs)))) c.as_slice-body.ensures.value)
     (made
-    ∙ ap (λ (cs : List CatchTree). caught noted (pack_catches (map catch_of cs))) c.as_slice-2.ensures.value))
+    ∙ ap (λ (cs : List CatchTree). caught noted (pack_catches (map catch_of cs))) c.as_slice.ensures.value))
     c.pass_clauses.ensures.context
 
 pub tries::lower_locked-returns-clause-code : goal.tries::lower_locked-returns-clause-code
@@ -203,11 +210,11 @@ tries::lower_locked-returns-clause-code t c =
     on_ok_weaker c.pass_clauses.result
     (locked-made Explicit c.args.lock.place (code_of c.args.draft.now) one (code_of c.lower_block.new.draft)
     (code_of c.end_locked.new.draft) (code_of c.pass_clauses.new.draft)
-    (code a (expr_of c.args.lock.on.now)) (stmt a (tree.Block (body_of c.args.tried.now))) c.len-body.result
-    c.in_ok-lower_expression.ensures.code c.len-body.ensures
+    (code a (expr_of c.args.lock.on.now)) (stmt a (tree.Block (body_of c.args.tried.now))) c.len-at.result
+    c.in_ok-lower_expression.ensures.code c.len-at.ensures
     (c.in_ok-lower_block.ensures.code
     ∙ ap (λ (xs : List Statement). one ++ stmt a (tree.Block (pack_stmts (map stmt_of xs))))
-    c.as_slice.ensures.value)
+    c.as_slice-body.ensures.value)
     c.in_ok-end_locked.ensures.code)
     c.pass_clauses.ensures.kept
 
@@ -256,7 +263,7 @@ tries::pass_clause-returns-clause-context t c =
     ∙ clause-passed a inside x ss
     (c.in_ok-lower_statements.ensures.context
     ∙ ap (λ (i : Context). after_all i (pack_stmts (map stmt_of c.as_slice.result.now))) c.in_ok-declare.ensures.context
-    ∙ ap (λ (xs : List Statement). after_all (declared a types.Other x) (pack_stmts (map stmt_of xs)))
+    ∙ ap (λ (xs : List Statement). after_all (of_catch a x) (pack_stmts (map stmt_of xs)))
     c.as_slice.ensures.value)
     ∙ ap (passed_by a) (sym (catch-form clause)))
     c.end_clause.ensures.context

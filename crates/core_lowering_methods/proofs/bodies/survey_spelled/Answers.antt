@@ -2,13 +2,12 @@ use Rattle.std.proofs.Common.{◌≡◌, [], refl, ap, ◌∙◌}
 use Rattle.std.specs.Prelude.{None}
 use Rattle.core_code.specs.Tree.{tree_of}
 use Rattle.core_lowering_rules.specs.Context.{Context}
-use Rattle.core_lowering_rules.specs.Methods.{body_of, is_large}
+use Rattle.core_lowering_rules.specs.Methods.{body_of, is_large, outside_methods}
 use Rattle.core_lowering_rules.specs.Scopes.{after_all}
 use Rattle.core_lowering_rules.specs.Statements.{closed, returned, stmts}
 use Rattle.core_lowering_context.specs.Beginning.{inside}
 use Rattle.core_lowering_methods.specs.Bodies.{object_begun, owner_pushed}
 use Rattle.core_lowering_methods.specs.Extents.{is_past}
-use Rattle.core_lowering_context.specs.Beginning.{left_at}
 use Rattle.core_lowering_context.specs.Views.{folder_of}
 use Rattle.core_lowering_context.specs.Sources.{source_of}
 use Rattle.core_lowering_methods.proofs.MethodCode.{measured-past, spelled-made}
@@ -37,7 +36,7 @@ returns-clause-code c =
     spelled-made folder source m (is_past c.in_ok-measured.measured.extent) c.args.source.now.info.now.place
     parts.fields parts.owner parts.block parts.last (tree_of c.in_ok-measured.measured.code) past refl
     (c.in_ok-parts.ensures.fields
-    ∙ ap (λ (x : Context). object_begun (left_at 0 x) source.members m) c.in_ok-context.ensures)
+    ∙ ap (λ (x : Context). object_begun (outside_methods x) source.members m) c.in_ok-context.ensures)
     (c.in_ok-parts.ensures.owner ∙ ap (λ (x : Context). owner_pushed x m) c.in_ok-context.ensures)
     (c.in_ok-parts.ensures.block
     ∙ ap (λ (x : Context). closed x (after_all x (body_of m)) (stmts x (body_of m))) c.in_ok-context.ensures)

@@ -3,10 +3,11 @@ use Rattle.std.proofs.lemmas.Result.{on_ok_weaker}
 use Rattle.java_tree.specs.View.{ty_of}
 use Rattle.racer_base.specs.declared.ids.Kind.{Kind}
 use Rattle.racer_base.specs.declared.ids.VarId.{VarId}
+use Rattle.java_resolver.specs.declared.scope.VariableKind.{VariableKind}
 use Rattle.core_lowering_rules.specs.TreesOf.{expr_of, resource_of}
 use Rattle.core_lowering_rules.specs.Context.{Context, converted, type_kind}
 use Rattle.core_lowering_rules.specs.Expressions.{code, kind}
-use Rattle.core_lowering_rules.specs.Scopes.{declared, next_variable, with_resource}
+use Rattle.core_lowering_rules.specs.Scopes.{declared, of_type, next_variable, with_resource}
 use Rattle.core_lowering_rules.specs.Statements.{set}
 use Rattle.core_lowering_context.specs.Drafts.{code_of}
 use Rattle.core_lowering_context.specs.Restored.{with_closing}
@@ -19,8 +20,9 @@ returns-clause-context c =
     let r = c.args.resource.now in
     on_ok_weaker c.set.result
     (λ made. c.in_ok-v.ensures.context
-    ∙ ap (λ (x : Context). declared x c.type_kind-kind.result r.name) c.note_closing.ensures
-    ∙ ap (λ (k : Kind). declared (with_closing k a) k r.name) c.type_kind-kind.ensures)
+    ∙ ap (λ (k : VariableKind). declared c.note_closing.new.self k r.name) c.variable_kind-known.ensures
+    ∙ ap (λ (x : Context). of_type x (ty_of r.kind) 0 r.name) c.note_closing.ensures
+    ∙ ap (λ (k : Kind). of_type (with_closing k a) (ty_of r.kind) 0 r.name) c.type_kind-kind.ensures)
     c.set.ensures
 
 pub returns-clause-code : goal.returns-clause-code
@@ -36,8 +38,9 @@ returns-clause-code c =
     let second = code_of c.convert.new.draft in
     let at : there ≡ inside =
     c.in_ok-v.ensures.context
-    ∙ ap (λ (x : Context). declared x c.type_kind-kind.result r.name) c.note_closing.ensures
-    ∙ ap (λ (m : Kind). declared (with_closing m a) m r.name) c.type_kind-kind.ensures in
+    ∙ ap (λ (m : VariableKind). declared c.note_closing.new.self m r.name) c.variable_kind-known.ensures
+    ∙ ap (λ (x : Context). of_type x (ty_of r.kind) 0 r.name) c.note_closing.ensures
+    ∙ ap (λ (m : Kind). of_type (with_closing m a) (ty_of r.kind) 0 r.name) c.type_kind-kind.ensures in
     let v : c.in_ok-v.v ≡ next_variable a =
     c.in_ok-v.ensures.variable ∙ ap next_variable c.note_closing.ensures in
     let value : one ≡ old ++ code inside e =

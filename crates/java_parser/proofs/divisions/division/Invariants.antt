@@ -1,6 +1,6 @@
 use Rattle.std.proofs.Common.{◌≤◌, suc, map, length}
 use Rattle.std.specs.Prelude.{option_map}
-use Rattle.java_tree.specs.Formed.{Each}
+use Rattle.java_tree.specs.FormedModifiers.{Each}
 use Rattle.java_parser.specs.Divisions.{HasTree, Passes, Divides, left_size}
 use Rattle.java_parser.proofs.divisions.division.Given as goal
 

@@ -5,7 +5,7 @@ use Rattle.java_tree.specs.Nesting.{init_nesting}
 use Rattle.java_tree.specs.View.{init_of}
 use Rattle.java_parser_grammar.specs.ExpressionReading.{init_at}
 use Rattle.java_parser_types.specs.Tokens.{spelled}
-use Rattle.java_parser_grammar.proofs.FoundExpressions.{init_found, one_init}
+use Rattle.java_parser_grammar.proofs.FoundExpressions.{init_found, nothing_leaves, one_init}
 use Rattle.java_parser_grammar.proofs.Taken.{pull_nothing}
 use Rattle.java_parser_grammar.proofs.SoundJava.{java_sound}
 use Rattle.java_parser_types.proofs.WholeTrees.{whole_formed, whole_spelled, whole_small, whole_only, whole_none}
@@ -34,4 +34,4 @@ returns-clause-only c = let ts = map spelled c.args.tokens.now in whole_only ini
 pub returns-clause-none : goal.returns-clause-none
 returns-clause-none c = whole_none init_of FormedInit init_nesting init_onto c.args.limit
     (map spelled c.args.tokens.now) (init_at c.args.limit) (λ a f fits. init_found a f c.args.limit [] fits
-    (omega (arith, pull_nothing))) c.whole_initialiser.result c.whole_initialiser.ensures.gives
+    (omega (arith, pull_nothing)) nothing_leaves) c.whole_initialiser.result c.whole_initialiser.ensures.gives

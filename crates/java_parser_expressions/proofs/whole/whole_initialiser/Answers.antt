@@ -1,5 +1,5 @@
-use Rattle.std.proofs.Common.{◌≡◌, ◌∙◌, sym, subst}
-use Rattle.java_tree.specs.KeptPlaces.{kept, init_places}
+use Rattle.std.proofs.Common.{◌∙◌, [], sym, subst}
+use Rattle.java_tree.specs.KeptPlaces.{Places, AreAt}
 use Rattle.java_parser_expressions.proofs.TokensLeft.{some_left, all_taken, none_kept}
 use Rattle.java_parser_expressions.proofs.whole.whole_initialiser.Goals as goal
 
@@ -15,5 +15,5 @@ returns-clause-gives c =
 
 pub returns-clause-places : goal.returns-clause-places
 returns-clause-places c =
-    rw c.into_inner.ensures (subst (λ ps. init_places c.in_ok-value.value.tree.value ps ≡ kept c.args.tokens.now)
-    (none_kept c.in_ok-value.rest.now (sym c.is_empty.ensures ∙ c.if-not-is_empty.false)) c.in_ok-value.ensures.places)
+    rw c.into_inner.ensures (c.in_ok-value.ensures.places [] (subst (λ (ps : Places). AreAt [] ps)
+    (sym (none_kept c.in_ok-value.rest.now (sym c.is_empty.ensures ∙ c.if-not-is_empty.false))) tt))

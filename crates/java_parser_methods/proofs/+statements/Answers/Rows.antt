@@ -3,7 +3,7 @@ use Rattle.std.proofs.Common.{◌≡◌, ℕ, true, false, codes, length, suc, �
 use Rattle.std.proofs.Common.{◌∙◌, ap, arith, subst}
 use Rattle.std.proofs.lemmas.Result.{err_from_is_err_and}
 use Rattle.std.proofs.lemmas.List.{map_push}
-use Rattle.java_tree.specs.KeptPlaces.{kept, expr_places, stmt_places, group_places}
+use Rattle.java_tree.specs.KeptPlaces.{kept, expr_places, stmt_places, group_places, each_puts, catch_places}
 use Rattle.java_parser_types.proofs.PutPlaces.{one_put}
 use Rattle.java_tree.specs.View.{stmt_of, group_of, catch_of, pack_groups}
 use Rattle.java_parser_grammar.specs.StatementReading.{stmt_at, block_at, body_at}
@@ -13,7 +13,7 @@ use Rattle.java_parser_grammar.specs.JavaReaders.{method_readers}
 use Rattle.java_parser_types.specs.Tokens.{spelled}
 use Rattle.java_parser_types.proofs.ReadParts.{part_fails}
 use Rattle.java_parser_types.proofs.ReadLoops.{ends_give}
-use Rattle.java_parser_methods.proofs.PassedOn.{puts_back, within_back}
+use Rattle.java_parser_methods.proofs.PassedOn.{within_back}
 use Rattle.java_parser_lookahead.specs.StatementLeadView.{row_text}
 use Rattle.java_parser_methods.proofs.RowLoops.{grouped_goes_on, grouped_fails, grouped_ends, grouped_runs_out}
 use Rattle.java_parser_methods.proofs.RowLoops.{group_goes_on, group_fails, groups_end, groups_run_out}
@@ -35,6 +35,7 @@ use Rattle.java_parser_methods.proofs.PartLoops.{clause_put, last_put, no_part_b
 use Rattle.java_parser_methods.specs.RowReading.{labelled_at, parts_at}
 use Rattle.java_parser_parts.specs.Parts.{switch_front_at}
 use Rattle.java_parser_methods.specs.TryView.{block_of}
+use Rattle.java_parser_types.proofs.LedMarks.{led_on, both_led, led_made, some_led, from_equal}
 use Rattle.java_parser_types.specs.ReadAnswer.{Fails}
 
 pub statements::row-returns-in-Try-clause-gives : goal.statements::row-returns-in-Try-clause-gives
@@ -70,8 +71,8 @@ switches::group_statements-loop-preserved t c =
           c.loop.items.items) (stmt_of n) (map spelled c.loop.rest.now) (map spelled c.in_ok-next.after.now)
           c.loop-test.true (sym c.ends_group.ensures ∙ c.if-ends_group.false) c.in_ok-next.ensures.gives
           c.loop.invariant.gives);
-      places = rw c.in_ok-push_tree.ensures.items (one_put stmt_places c.loop.items.items n (kept c.loop.rest.now)
-          (kept c.in_ok-next.after.now) _ c.in_ok-next.ensures.places c.loop.invariant.places);
+      places = rw c.in_ok-push_tree.ensures.items (one_put stmt_places c.loop.items.items n (kept c.args.tokens.now)
+          (kept c.loop.rest.now) (kept c.in_ok-next.after.now) c.in_ok-next.ensures.places c.loop.invariant.places);
       few = omega (arith, c.loop-test.true);
       shorter = omega (arith, c.in_ok-next.ensures.shorter, c.loop.invariant.shorter);
     }
@@ -82,7 +83,7 @@ switches::group_statements-loop-init t c =
     omega arith in
     record {
       gives = rw (c.new-items.ensures.items, all) (alone _);
-      places = rw c.new-items.ensures.items refl;
+      places = rw c.new-items.ensures.items (λ rest led. led);
       few = omega arith;
       shorter = omega arith;
     }
@@ -143,8 +144,8 @@ switches::groups-loop-preserved t c =
       gives = rw e (group_goes_on method_readers read c.args.limit total c.args.tokens.now c.loop.counter (map group_of
           c.loop.items.items) (group_of n) (map spelled c.loop.rest.now) (map spelled c.in_ok-next.after.now)
           c.loop-test.true c.in_default.ensures.gives c.in_ok-next.ensures.gives c.loop.invariant.gives);
-      places = rw c.in_ok-push.ensures.items (one_put group_places c.loop.items.items n (kept c.loop.rest.now)
-          (kept c.in_ok-next.after.now) _ c.in_ok-next.ensures.places c.loop.invariant.places);
+      places = rw c.in_ok-push.ensures.items (one_put group_places c.loop.items.items n (kept c.args.tokens.now)
+          (kept c.loop.rest.now) (kept c.in_ok-next.after.now) c.in_ok-next.ensures.places c.loop.invariant.places);
       shorter = omega (arith, c.in_ok-next.ensures.shorter, c.loop.invariant.shorter);
     }
 
@@ -153,7 +154,7 @@ switches::groups-loop-init t c =
     let all : length (map spelled c.args.tokens.now) - 0 ≡ length (map spelled c.args.tokens.now) = omega arith in
     record {
       gives = rw (c.new-items.ensures.items, all) (no_group_before _);
-      places = rw c.new-items.ensures.items refl;
+      places = rw c.new-items.ensures.items (λ rest led. led);
       shorter = omega arith;
     }
 
@@ -184,8 +185,8 @@ statements::do_statement-returns-clause-gives t c =
 
 pub statements::do_statement-returns-clause-places : goal.statements::do_statement-returns-clause-places
 statements::do_statement-returns-clause-places t c =
-    puts_back c.do_end.result (λ x. stmt_places x.0.value (kept x.1.now)) _ _
-    c.in_ok-body.ensures.places c.do_end.ensures.places
+    led_on c.do_end.result (λ x. stmt_places x.0.value) (λ x. kept x.1.now) (stmt_places c.in_ok-body.body.value) (kept
+    c.args.tokens.now) (kept c.in_ok-body.rest.now) c.in_ok-body.ensures.places c.do_end.ensures.places
 
 pub statements::do_statement-returns-clause-shorter : goal.statements::do_statement-returns-clause-shorter
 statements::do_statement-returns-clause-shorter t c = within_back c.do_end.result (λ x. length x.1.now) _ _
@@ -208,8 +209,12 @@ statements::label_statement-returns-clause-gives t c =
 
 pub statements::label_statement-returns-clause-places : goal.statements::label_statement-returns-clause-places
 statements::label_statement-returns-clause-places t c =
-    puts_back c.labelled.result (λ x. stmt_places x.0.value (kept x.1.now)) _ _
-    (ap (λ ps. c.args.name.now.place ∷ ps) c.in_ok-inside.ensures.places) c.labelled.ensures.places
+    led_made c.labelled.result (λ x. stmt_places x.0.value) (λ x. kept x.1.now) (λ rest. Some c.args.name.now.place ∷
+    (stmt_places c.in_ok-inside.inside.value) rest) (c.args.name.now.place ∷ kept c.args.tokens.now) (kept
+    c.in_ok-inside.rest.now) (both_led (λ rest. Some c.args.name.now.place ∷ rest) (stmt_places
+    c.in_ok-inside.inside.value) (c.args.name.now.place ∷ kept c.args.tokens.now) (kept c.args.tokens.now) (kept
+    c.in_ok-inside.rest.now) (some_led (c.args.name.now.place ∷ []) (kept c.args.tokens.now) (c.args.name.now.place ∷
+    kept c.args.tokens.now) refl) c.in_ok-inside.ensures.places) c.labelled.ensures.places c.labelled.ensures.behind
 
 pub statements::label_statement-returns-clause-shorter : goal.statements::label_statement-returns-clause-shorter
 statements::label_statement-returns-clause-shorter t c = within_back c.labelled.result (λ x. length x.1.now) _ _
@@ -256,9 +261,12 @@ switches::switch_statement-returns-clause-gives t c =
 
 pub switches::switch_statement-returns-clause-places : goal.switches::switch_statement-returns-clause-places
 switches::switch_statement-returns-clause-places t c =
-    puts_back c.switched.result (λ x. stmt_places x.0.value (kept x.1.now)) _ _
-    (ap (λ ps. expr_places c.in_ok-value.value.value ps) c.in_ok-groups.ensures.places ∙ c.in_ok-value.ensures.places)
-    c.switched.ensures.places
+    led_made c.switched.result (λ x. stmt_places x.0.value) (λ x. kept x.1.now) (λ rest. (expr_places
+    c.in_ok-value.value.value) ((each_puts (map group_places c.in_ok-groups.groups.items)) rest)) (kept
+    c.args.tokens.now) (kept c.in_ok-groups.rest.now) (both_led (expr_places c.in_ok-value.value.value) (each_puts (map
+    group_places c.in_ok-groups.groups.items)) (kept c.args.tokens.now) (kept c.in_ok-value.rest.now) (kept
+    c.in_ok-groups.rest.now) c.in_ok-value.ensures.places c.in_ok-groups.ensures.places) c.switched.ensures.places
+    c.switched.ensures.behind
 
 pub switches::switch_statement-returns-clause-shorter : goal.switches::switch_statement-returns-clause-shorter
 switches::switch_statement-returns-clause-shorter t c = within_back c.switched.result (λ x. length x.1.now) _ _
@@ -270,7 +278,7 @@ tries::parts-loop-init t c =
     omega arith in
     record {
       gives = rw (c.new-parts.ensures.clauses, c.new-parts.ensures.last, all) (no_part_before _);
-      places = rw (c.new-parts.ensures.clauses, c.new-parts.ensures.last) refl;
+      places = rw (c.new-parts.ensures.clauses, c.new-parts.ensures.last) (λ rest led. led);
       few = omega arith;
     }
 
@@ -318,9 +326,11 @@ tries::parts-loop-preserved t c =
                 (map spelled w.in_ok-next-in-Clause.after.now) c.loop-test.true w.in-Clause.ensures.gives
                 w.in_ok-next-in-Clause.ensures.gives c.loop.invariant.gives);
             places = rw w.in_ok-push-in-Clause.ensures.items (clause_put c.loop.parts.clauses.items c.loop.parts.last n
-                (map spelled c.loop.rest.now) (map spelled w.in-Clause.after.now) (kept c.loop.rest.now)
-                (kept w.in_ok-next-in-Clause.after.now) _ w.in-Clause.ensures.gives
-                (w.in_ok-next-in-Clause.ensures.places ∙ w.in-Clause.ensures.places) c.loop.invariant.places);
+                (map spelled c.loop.rest.now) (map spelled w.in-Clause.after.now) (kept c.args.tokens.now)
+                (kept c.loop.rest.now) (kept w.in_ok-next-in-Clause.after.now) w.in-Clause.ensures.gives
+                (from_equal (catch_places n) (kept c.loop.rest.now) (kept w.in-Clause.after.now)
+                (kept w.in_ok-next-in-Clause.after.now) w.in-Clause.ensures.places
+                w.in_ok-next-in-Clause.ensures.places) c.loop.invariant.places);
             few = omega (
               arith,
               w.in-Clause.ensures.shorter,
@@ -336,9 +346,11 @@ tries::parts-loop-preserved t c =
             (map spelled w.in_ok-last-in-Last.after.now) c.loop-test.true w.in-Last.ensures.gives
             w.in_ok-last-in-Last.ensures.gives c.loop.invariant.gives;
         places = last_put c.loop.parts.clauses.items c.loop.parts.last w.in_ok-last-in-Last.last
-            (map spelled c.loop.rest.now) (map spelled w.in-Last.after.now) (kept c.loop.rest.now)
-            (kept w.in_ok-last-in-Last.after.now) _ w.in-Last.ensures.gives
-            (w.in_ok-last-in-Last.ensures.places ∙ w.in-Last.ensures.places) c.loop.invariant.places;
+            (map spelled c.loop.rest.now) (map spelled w.in-Last.after.now) (kept c.args.tokens.now)
+            (kept c.loop.rest.now) (kept w.in_ok-last-in-Last.after.now) w.in-Last.ensures.gives
+            (from_equal (each_puts (map stmt_places w.in_ok-last-in-Last.last.items)) (kept c.loop.rest.now)
+            (kept w.in-Last.after.now) (kept w.in_ok-last-in-Last.after.now) w.in-Last.ensures.places
+            w.in_ok-last-in-Last.ensures.places) c.loop.invariant.places;
         few = omega (
           arith,
           w.in-Last.ensures.shorter,

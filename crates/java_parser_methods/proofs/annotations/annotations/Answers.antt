@@ -2,10 +2,10 @@ use Rattle.std.proofs.Common.{◌≡◌, ◌++◌, ◌∷◌, [], map, arith, �
 use Rattle.std.proofs.lemmas.Result.{err_from_is_err_and}
 use Rattle.std.proofs.lemmas.List.{map_push}
 use Rattle.java_tree.specs.KeptPlaces.{kept}
-use Rattle.java_tree.specs.MethodPlaces.{annotation_marks}
-use Rattle.java_parser_methods.proofs.LedMarks.{one_led, from_equal}
+use Rattle.java_tree.specs.KeptPlaces.{annotation_marks}
+use Rattle.java_parser_types.proofs.LedMarks.{one_led, from_equal}
 use Rattle.java_tree.specs.View.{annotation_of}
-use Rattle.java_parser_grammar.specs.MethodReading.{annotations_at}
+use Rattle.java_parser_grammar.specs.BalancedReading.{annotations_at}
 use Rattle.java_parser_types.specs.Tokens.{spelled}
 use Rattle.java_parser_methods.proofs.AnnotationLoops.{annotation_goes_on, annotation_fails, annotations_end}
 use Rattle.java_parser_methods.proofs.AnnotationLoops.{annotations_run_out}

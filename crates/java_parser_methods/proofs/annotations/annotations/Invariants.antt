@@ -1,9 +1,9 @@
 use Rattle.std.proofs.Common.{◌≡◌, ◌-◌, ◌≤◌, [], length, map}
 use Rattle.java_tree.specs.KeptPlaces.{kept}
-use Rattle.java_tree.specs.MethodPlaces.{each_marks, annotation_marks}
-use Rattle.java_parser_methods.specs.LedPlaces.{Leads}
+use Rattle.java_tree.specs.KeptPlaces.{each_marks, annotation_marks}
+use Rattle.java_parser_types.specs.LedPlaces.{Leads}
 use Rattle.java_tree.specs.View.{annotation_of}
-use Rattle.java_parser_grammar.specs.MethodReading.{annotations_at}
+use Rattle.java_parser_grammar.specs.BalancedReading.{annotations_at}
 use Rattle.java_parser_types.specs.Tokens.{spelled}
 use Rattle.java_parser_types.specs.Finishing.{finished}
 use Rattle.java_parser_types.specs.Endings.{as_they_are}

@@ -1,8 +1,8 @@
 use Rattle.std.proofs.Common.{◌∙◌, ◌∷◌, [], length, map, arith, ◌≡◌, ◌-◌, refl}
 use Rattle.std.proofs.lemmas.Result.{err_from_is_err_and}
 use Rattle.java_tree.specs.KeptPlaces.{kept}
-use Rattle.java_tree.specs.MethodPlaces.{no_name}
-use Rattle.java_parser_methods.proofs.LedMarks.{one_led, name_led}
+use Rattle.java_tree.specs.KeptPlaces.{no_name}
+use Rattle.java_parser_types.proofs.LedMarks.{one_led, name_led}
 use Rattle.java_parser_grammar.specs.Taking.{after_name}
 use Rattle.java_parser_grammar.specs.TypeReading.{points}
 use Rattle.java_parser_types.specs.Tokens.{spelled}

@@ -1,7 +1,7 @@
 use Rattle.std.proofs.Common.{◌≡◌, ◌-◌, ◌≤◌, [], ◌∷◌, length, map}
 use Rattle.java_tree.specs.KeptPlaces.{Places, kept}
-use Rattle.java_tree.specs.MethodPlaces.{each_marks, no_name}
-use Rattle.java_parser_methods.specs.LedPlaces.{Leads}
+use Rattle.java_tree.specs.KeptPlaces.{each_marks, no_name}
+use Rattle.java_parser_types.specs.LedPlaces.{Leads}
 use Rattle.java_parser_grammar.specs.Taking.{after_name}
 use Rattle.java_parser_grammar.specs.TypeReading.{points}
 use Rattle.java_parser_types.specs.Tokens.{spelled}

@@ -1,22 +1,25 @@
-use Rattle.std.proofs.Common.{◌∙◌, ap, ◌++◌, ◌∷◌, arith, length}
-use Rattle.java_parser_methods.proofs.PassedOn.{puts_back, start_kept, within_back}
-use Rattle.java_tree.specs.KeptPlaces.{kept, ty_places, locals_places}
-use Rattle.java_parser_methods.specs.HeadView.{head_places}
-use Rattle.racer_base.specs.declared.ids.Place.{Place}
+use Rattle.std.proofs.Common.{◌∙◌, ap, arith, length, subst, sym}
+use Rattle.java_parser_methods.proofs.PassedOn.{start_kept, within_back}
+use Rattle.java_tree.specs.KeptPlaces.{kept, locals_places, Marks, AreAt, start_places}
+use Rattle.java_parser_methods.specs.HeadView.{head_places, each_places}
+use Rattle.java_parser_methods.specs.TypedReading.{typed_places}
+use Rattle.java_parser_methods.proofs.LedMarks.{named_led}
+use Rattle.java_parser_types.proofs.LedMarks.{led_through}
 use Rattle.java_parser_methods.proofs.heads.declared.Goals as goal
 
 pub returns-in-Some-clause-places : goal.returns-in-Some-clause-places
 returns-in-Some-clause-places c =
-    puts_back c.each.result (λ x. head_places x.0 (kept x.1.now)) _ _ (ap (λ (p : Place). ty_places
-    c.args.kind.value ++ (p ∷ kept c.in-Some.rest.now)) c.in_ok-name.ensures.places ∙ ap (λ ps. ty_places
-    c.args.kind.value ++ ps) c.in-Some.ensures.places)
-    c.each.ensures.places
+    led_through c.each.result (λ x. head_places x.0) (λ x. kept x.1.now) (typed_places c.args.front) (each_places
+    c.in_ok-variable.variable.value) (kept c.args.tokens.now) (kept c.in-Some.rest.now) (named_led (typed_places
+    c.args.front) (each_places c.in_ok-variable.variable.value) c.in-Some.word.now.place (kept c.args.tokens.now) (kept
+    c.in-Some.rest.now) c.in-Some.ensures.places c.in_ok-variable.ensures.places) c.each.ensures.places
 
 pub returns-clause-places : goal.returns-clause-places
 returns-clause-places c =
-    puts_back c.counted.result (λ x. head_places x.0 (kept x.1.now)) _ _ (start_kept _ c.in_ok-start.start.value (kept
-    c.in_ok-locals.rest.now) c.in_ok-start.ensures ∙ ap (λ l. locals_places l (kept c.in_ok-locals.rest.now))
-    c.into_inner.ensures ∙ c.in_ok-locals.ensures.places)
+    led_through c.counted.result (λ x. head_places x.0) (λ x. kept x.1.now) (typed_places c.args.front) (start_places
+    c.in_ok-start.start.value) (kept c.args.tokens.now) (kept c.in_ok-locals.rest.now) (λ begin given rest a. subst (λ
+    (ms : Marks). AreAt ms begin) (sym (start_kept _ c.in_ok-start.start.value rest c.in_ok-start.ensures ∙ ap (λ l.
+    locals_places l rest) c.into_inner.ensures)) (c.in_ok-locals.ensures.places begin given rest a))
     c.counted.ensures.places
 
 pub returns-in-Some-clause-shorter : goal.returns-in-Some-clause-shorter

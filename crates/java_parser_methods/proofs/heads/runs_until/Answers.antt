@@ -1,12 +1,13 @@
 use Rattle.std.proofs.Common.{map, arith, length, sym, ◌∙◌, refl}
-use Rattle.java_parser_methods.proofs.PassedOn.{puts_back, within_back}
+use Rattle.java_parser_methods.proofs.PassedOn.{within_back}
 use Rattle.java_tree.specs.KeptPlaces.{kept, each_puts, expr_places}
+use Rattle.java_parser_types.proofs.LedMarks.{led_on}
 use Rattle.java_parser_methods.proofs.heads.runs_until.Goals as goal
 
 pub returns-clause-places : goal.returns-clause-places
 returns-clause-places c =
-    puts_back c.more_runs.result (λ x. each_puts (map expr_places x.0.items) (kept x.1.now)) _ _
-    (c.in_ok-first.ensures.places)
+    led_on c.more_runs.result (λ x. each_puts (map expr_places x.0.items)) (λ x. kept x.1.now) (expr_places
+    c.in_ok-first.first.value) (kept c.args.tokens.now) (kept c.in_ok-first.rest.now) c.in_ok-first.ensures.places
     c.more_runs.ensures.places
 
 pub returns-clause-shorter : goal.returns-clause-shorter

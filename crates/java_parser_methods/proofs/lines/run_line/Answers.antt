@@ -1,7 +1,8 @@
-use Rattle.std.proofs.Common.{◌∙◌, ap, arith, length}
+use Rattle.std.proofs.Common.{arith, length}
 use Rattle.java_parser_grammar.specs.StatementReading.{run_line_at}
-use Rattle.java_parser_methods.proofs.PassedOn.{puts_back, within_back}
+use Rattle.java_parser_methods.proofs.PassedOn.{within_back}
 use Rattle.java_tree.specs.KeptPlaces.{kept, stmt_places, expr_places}
+use Rattle.java_parser_types.proofs.LedMarks.{to_equal, led_made}
 use Rattle.java_parser_methods.proofs.lines.run_line.Goals as goal
 
 pub returns-clause-gives : goal.returns-clause-gives
@@ -11,9 +12,10 @@ returns-clause-gives c =
 
 pub returns-clause-places : goal.returns-clause-places
 returns-clause-places c =
-    puts_back c.ran.result (λ x. stmt_places x.0.value (kept x.1.now)) _ _ (ap (λ ps. expr_places
-    c.in_ok-run.run'.value ps) c.in_ok-rest.ensures.places ∙ c.in_ok-run.ensures.places)
-    c.ran.ensures.places
+    led_made c.ran.result (λ x. stmt_places x.0.value) (λ x. kept x.1.now) (expr_places c.in_ok-run.run'.value) (kept
+    c.args.tokens.now) (kept c.in_ok-rest.rest.now) (to_equal (expr_places c.in_ok-run.run'.value) (kept
+    c.args.tokens.now) (kept c.in_ok-run.rest.now) (kept c.in_ok-rest.rest.now) c.in_ok-rest.ensures.places
+    c.in_ok-run.ensures.places) c.ran.ensures.places c.ran.ensures.behind
 
 pub returns-clause-shorter : goal.returns-clause-shorter
 returns-clause-shorter c =

@@ -1,10 +1,34 @@
-use Rattle.std.proofs.Common.{◌∙◌}
-use Rattle.java_parser_methods.proofs.PassedOn.{puts_back}
+use Rattle.std.proofs.Common.{map, sym, ap, subst, ◌∙◌}
+use Rattle.std.proofs.lemmas.Result.{err_from_is_err_and}
 use Rattle.java_tree.specs.KeptPlaces.{kept, locals_places}
+use Rattle.java_tree.specs.View.{locals_of}
+use Rattle.java_parser_grammar.specs.JavaReaders.{method_readers}
+use Rattle.java_parser_grammar.specs.Taking.{◌>>=◌}
+use Rattle.java_parser_types.proofs.LedMarks.{led_on}
+use Rattle.java_parser_types.proofs.ReadParts.{part_fails}
+use Rattle.java_parser_types.specs.ReadAnswer.{Gives}
+use Rattle.java_parser_types.specs.Tokens.{spelled}
+use Rattle.java_parser_methods.specs.LocalReading.{variables_with}
+use Rattle.java_parser_methods.specs.TypedReading.{typed_at, typed_places}
+use Rattle.java_parser_methods.proofs.ParameterParts.{locals_are_typed}
 use Rattle.java_parser_methods.proofs.locals.locals.Goals as goal
+
+pub returns-in_err-front-clause-gives : goal.returns-in_err-front-clause-gives
+returns-in_err-front-clause-gives c =
+    let ts = map spelled c.args.tokens.now in
+    let p = err_from_is_err_and c.from_residual.result c.from_residual.ensures.1 in
+    rw (p.1, p.2) (part_fails c.in_err-front.field-0.0 (typed_at method_readers c.args.limit ts) _
+    (λ none. locals_are_typed c.args.limit ts ∙ ap (λ o. o >>= λ front. variables_with method_readers c.args.limit
+    front.0 front.1) none) c.in_err-front.ensures.gives)
+
+pub returns-clause-gives : goal.returns-clause-gives
+returns-clause-gives c =
+    let ts = map spelled c.args.tokens.now in
+    subst (λ o. Gives (λ x. (locals_of x.0.value, map spelled x.1.now)) c.variables.result o)
+    (sym (locals_are_typed c.args.limit ts ∙ ap (λ o. o >>= λ front. variables_with method_readers c.args.limit front.0
+    front.1) c.in_ok-front.ensures.gives)) c.variables.ensures.gives
 
 pub returns-clause-places : goal.returns-clause-places
 returns-clause-places c =
-    puts_back c.variables.result (λ x. locals_places x.0.value (kept x.1.now)) _ _ (c.in_ok-kind.ensures.places ∙
-    c.final_at-is_final.ensures.places)
-    c.variables.ensures.places
+    led_on c.variables.result (λ x. locals_places x.0.value) (λ x. kept x.1.now) (typed_places c.in_ok-front.front)
+    (kept c.args.tokens.now) (kept c.in_ok-front.rest.now) c.in_ok-front.ensures.places c.variables.ensures.places

@@ -1,7 +1,8 @@
-use Rattle.std.proofs.Common.{◌∙◌, ◌≡◌, ◌++◌, ◌∷◌, [], length, map, arith, ◌-◌, refl}
+use Rattle.std.proofs.Common.{◌≡◌, ◌++◌, ◌∷◌, [], length, map, arith, ◌-◌, refl}
 use Rattle.std.proofs.lemmas.Result.{err_from_is_err_and}
 use Rattle.std.proofs.lemmas.List.{map_push}
 use Rattle.java_tree.specs.KeptPlaces.{kept, variable_places}
+use Rattle.java_parser_types.proofs.LedMarks.{from_equal}
 use Rattle.java_parser_types.proofs.PutPlaces.{one_put}
 use Rattle.java_tree.specs.View.{variable_of}
 use Rattle.java_parser_grammar.specs.Taking.{commas}
@@ -40,9 +41,10 @@ loop-preserved c =
           c.loop.items.items) (variable_of n) (map spelled c.loop.rest.now) (map spelled c.in-Some.after.now)
           (map spelled c.in_ok-next.after.now) c.loop-test.true c.in-Some.ensures.gives c.in_ok-next.ensures.gives
           c.loop.invariant.gives);
-      places = rw c.in_ok-push_tree-2.ensures.items (one_put variable_places c.loop.items.items n (kept c.loop.rest.now)
-          (kept c.in_ok-next.after.now) _ (c.in_ok-next.ensures.places ∙ c.in-Some.ensures.places)
-          c.loop.invariant.places);
+      places = rw c.in_ok-push_tree-2.ensures.items (λ start led. one_put variable_places c.loop.items.items n start
+          (kept c.loop.rest.now) (kept c.in_ok-next.after.now) (from_equal (variable_places n) (kept c.loop.rest.now)
+          (kept c.in-Some.after.now) (kept c.in_ok-next.after.now) c.in-Some.ensures.places
+          c.in_ok-next.ensures.places) (c.loop.invariant.places start led));
       shorter = omega (arith, c.in-Some.ensures.shorter, c.in_ok-next.ensures.shorter);
     }
 
@@ -65,6 +67,6 @@ loop-init c =
     let none : length (map spelled c.args.tokens.now) - 0 ≡ length (map spelled c.args.tokens.now) = omega arith in
     record {
       gives = rw (c.in_ok-push_tree.ensures.items, c.new-items.ensures.items, none) refl;
-      places = rw (c.in_ok-push_tree.ensures.items, c.new-items.ensures.items) refl;
+      places = rw (c.in_ok-push_tree.ensures.items, c.new-items.ensures.items) (λ start led. led);
       shorter = omega arith;
     }

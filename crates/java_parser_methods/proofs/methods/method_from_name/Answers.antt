@@ -1,14 +1,13 @@
 use Rattle.std.proofs.Common.{[], map, sym, subst, refl}
-use Rattle.java_parser_methods.specs.SignatureReading.{signature_marks, whole_named_at}
+use Rattle.java_parser_methods.specs.SignatureReading.{front_marks, signature_marks, whole_named_at}
 use Rattle.java_tree.specs.KeptPlaces.{kept, each_puts, stmt_places}
-use Rattle.java_tree.specs.MethodPlaces.{Marks, AreAt, some_onto, each_marks, modifier_marks, result_places}
+use Rattle.java_tree.specs.KeptPlaces.{Marks, AreAt}
 use Rattle.java_parser_methods.proofs.LedMarks.{whole_at}
 use Rattle.java_parser_methods.proofs.methods.method_from_name.Goals as goal
 
 pub returns-clause-places : goal.returns-clause-places
 returns-clause-places c start so_far =
-    subst (λ (ms : Marks). AreAt ms start) (sym c.method.ensures.places) (whole_at
-    (λ (rest : Marks). each_marks modifier_marks c.args.modifiers (some_onto (result_places c.args.given) rest))
+    subst (λ (ms : Marks). AreAt ms start) (sym c.method.ensures.places) (whole_at (front_marks c.args.front)
     (signature_marks c.in_ok-signature.signature) (each_puts (map stmt_places c.in_ok-body.body.items) []) start
     (kept c.args.tokens.now) (kept c.in_ok-signature.rest.now) so_far c.in_ok-signature.ensures.places
     c.in_ok-body.ensures.places)

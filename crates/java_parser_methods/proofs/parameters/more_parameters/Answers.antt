@@ -3,7 +3,7 @@ use Rattle.std.proofs.lemmas.Result.{err_from_is_err_and}
 use Rattle.std.proofs.lemmas.List.{map_push}
 use Rattle.java_tree.specs.KeptPlaces.{kept}
 use Rattle.java_tree.specs.MethodPlaces.{parameter_marks}
-use Rattle.java_parser_methods.proofs.LedMarks.{one_led, from_equal}
+use Rattle.java_parser_types.proofs.LedMarks.{one_led, from_equal}
 use Rattle.java_tree.specs.View.{parameter_of}
 use Rattle.java_parser_grammar.specs.Taking.{commas}
 use Rattle.java_parser_grammar.specs.MethodReading.{parameter_at}

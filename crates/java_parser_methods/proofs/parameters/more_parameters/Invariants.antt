@@ -1,7 +1,8 @@
 use Rattle.std.proofs.Common.{◌≡◌, ◌-◌, ◌≤◌, [], ◌∷◌, length, map}
 use Rattle.java_tree.specs.KeptPlaces.{Places, kept}
-use Rattle.java_tree.specs.MethodPlaces.{each_marks, parameter_marks}
-use Rattle.java_parser_methods.specs.LedPlaces.{Leads}
+use Rattle.java_tree.specs.KeptPlaces.{each_marks}
+use Rattle.java_tree.specs.MethodPlaces.{parameter_marks}
+use Rattle.java_parser_types.specs.LedPlaces.{Leads}
 use Rattle.java_tree.specs.View.{parameter_of}
 use Rattle.java_parser_grammar.specs.Taking.{commas}
 use Rattle.java_parser_grammar.specs.MethodReading.{parameter_at}

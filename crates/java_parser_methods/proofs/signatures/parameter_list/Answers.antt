@@ -1,7 +1,8 @@
 use Rattle.std.proofs.Common.{refl, arith}
 use Rattle.java_parser_methods.specs.SignatureReading.{parameter_list_at}
 use Rattle.java_tree.specs.KeptPlaces.{kept}
-use Rattle.java_tree.specs.MethodPlaces.{each_marks, parameter_marks}
+use Rattle.java_tree.specs.KeptPlaces.{each_marks}
+use Rattle.java_tree.specs.MethodPlaces.{parameter_marks}
 use Rattle.java_parser_methods.proofs.LedMarks.{enclosed_led}
 use Rattle.java_parser_methods.proofs.signatures.parameter_list.Goals as goal
 

@@ -1,7 +1,8 @@
-use Rattle.std.proofs.Common.{◌∙◌, ◌≡◌, ◌++◌, ◌∷◌, [], suc, length, map, arith, ◌-◌, refl}
+use Rattle.std.proofs.Common.{◌≡◌, ◌++◌, ◌∷◌, [], suc, length, map, arith, ◌-◌, refl}
 use Rattle.std.proofs.lemmas.Result.{err_from_is_err_and}
 use Rattle.std.proofs.lemmas.List.{map_push}
-use Rattle.java_tree.specs.KeptPlaces.{kept, resource_places}
+use Rattle.java_tree.specs.KeptPlaces.{kept, each_puts, resource_places, resources_places}
+use Rattle.java_parser_types.proofs.LedMarks.{from_equal, led_through}
 use Rattle.java_parser_types.proofs.PutPlaces.{one_put}
 use Rattle.java_tree.specs.View.{resource_of}
 use Rattle.java_parser_grammar.specs.StatementReading.{more_resources_at}
@@ -35,9 +36,10 @@ loop-preserved c =
           (map resource_of c.loop.items.items) (resource_of n) (map spelled c.loop.rest.now)
           (map spelled c.in-Some.after.now) (map spelled c.in_ok-next.after.now) c.loop-test.true
           c.in-Some.ensures.gives c.in_ok-next.ensures.gives c.loop.invariant.gives);
-      places = rw c.in_ok-push-2.ensures.items (one_put resource_places c.loop.items.items n (kept c.loop.rest.now)
-          (kept c.in_ok-next.after.now) _ (c.in_ok-next.ensures.places ∙ c.in-Some.ensures.places)
-          c.loop.invariant.places);
+      places = rw c.in_ok-push-2.ensures.items (λ start led. one_put resource_places c.loop.items.items n start
+          (kept c.loop.rest.now) (kept c.in_ok-next.after.now) (from_equal (resource_places n) (kept c.loop.rest.now)
+          (kept c.in-Some.after.now) (kept c.in_ok-next.after.now) c.in-Some.ensures.places
+          c.in_ok-next.ensures.places) (c.loop.invariant.places start led));
       few = omega (arith, c.in-Some.ensures.shorter, c.in_ok-next.ensures.shorter, c.loop.invariant.few);
     }
 
@@ -47,7 +49,7 @@ loop-init c =
     omega arith in
     record {
       gives = rw (c.in_ok-push.ensures.items, c.new-items.ensures.items, all) refl;
-      places = rw (c.in_ok-push.ensures.items, c.new-items.ensures.items) refl;
+      places = rw (c.in_ok-push.ensures.items, c.new-items.ensures.items) (λ start led. led);
       few = omega arith;
     }
 
@@ -66,3 +68,9 @@ returns-clause-gives c =
           c.loop.invariant.gives
     ] in
     ends_give _ c.resources_end.result total _ stop c.resources_end.ensures.gives
+
+pub returns-clause-places : goal.returns-clause-places
+returns-clause-places c =
+    led_through c.resources_end.result (λ x. resources_places x.0) (λ x. kept x.1.now) (resource_places c.args.first)
+    (each_puts (map resource_places c.loop.items.items)) (kept c.args.tokens.now) (kept c.loop.rest.now)
+    c.loop.invariant.places c.resources_end.ensures.places

@@ -1,7 +1,8 @@
-use Rattle.std.proofs.Common.{◌++◌, ◌≡◌, ◌-◌, ◌≤◌, [], ◌∷◌, length, map}
+use Rattle.std.proofs.Common.{◌++◌, ◌≡◌, ◌-◌, ◌≤◌, [], ◌∷◌, codes, length, map}
 use Rattle.java_tree.specs.KeptPlaces.{kept, all_places, ty_places}
 use Rattle.java_tree.specs.View.{ty_of}
-use Rattle.java_parser_grammar.specs.StatementReading.{bars_at}
+use Rattle.java_parser_grammar.specs.StatementReading.{named_at}
+use Rattle.java_parser_grammar.specs.TypeReading.{behind_each}
 use Rattle.java_parser_grammar.specs.JavaReaders.{method_readers}
 use Rattle.java_parser_types.specs.Tokens.{spelled}
 use Rattle.java_parser_types.specs.Finishing.{finished}
@@ -10,9 +11,10 @@ use Rattle.java_parser_methods.proofs.try_heads.more_types.Given as goal
 
 abbrev pub invariant-loop : goal.invariant-loop
 invariant-loop l = record {
-  gives : finished as_they_are (map ty_of l.items.items) (bars_at method_readers l.limit
+  gives : finished as_they_are (map ty_of l.items.items) (behind_each (codes "|") (named_at method_readers l.limit)
       (length (map spelled l.tokens) - l.counter) (map spelled l.rest)) ≡ finished as_they_are (ty_of l.fn.first ∷ [])
-      (bars_at method_readers l.limit (length (map spelled l.tokens)) (map spelled l.tokens));
+      (behind_each (codes "|") (named_at method_readers l.limit) (length (map spelled l.tokens))
+      (map spelled l.tokens));
   places : all_places (map ty_places l.items.items) ++ kept l.rest ≡ ty_places l.fn.first ++ kept l.tokens;
   shorter : length l.rest ≤ length l.tokens;
 }

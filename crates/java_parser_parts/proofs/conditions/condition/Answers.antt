@@ -1,5 +1,7 @@
 use Rattle.std.proofs.Common.{refl, arith}
+use Rattle.java_tree.specs.KeptPlaces.{kept, expr_places}
 use Rattle.java_parser_grammar.specs.StatementReading.{condition_at}
+use Rattle.java_parser_types.proofs.LedMarks.{from_equal, to_equal}
 use Rattle.java_parser_parts.proofs.conditions.condition.Goals as goal
 
 pub returns-clause-gives : goal.returns-clause-gives
@@ -9,7 +11,10 @@ returns-clause-gives c =
 
 pub returns-clause-places : goal.returns-clause-places
 returns-clause-places c =
-    rw (c.in_ok-rest-2.ensures.places, c.in_ok-condition.ensures.places, c.in_ok-rest.ensures.places) refl
+    let puts = expr_places c.in_ok-condition.condition.tree.value in
+    to_equal puts (kept c.args.tokens.now) (kept c.in_ok-condition.rest.now) (kept c.in_ok-rest-2.rest.now)
+    c.in_ok-rest-2.ensures.places (from_equal puts (kept c.args.tokens.now) (kept c.in_ok-rest.rest.now)
+    (kept c.in_ok-condition.rest.now) c.in_ok-rest.ensures.places c.in_ok-condition.ensures.places)
 
 pub returns-clause-shorter : goal.returns-clause-shorter
 returns-clause-shorter c =

@@ -1,10 +1,12 @@
 -- Its wrong body falls here sooner than where `auto` searches.
 use Rattle.std.proofs.Common.{map, refl}
 use Rattle.std.proofs.lemmas.Result.{err_from_is_err_and}
+use Rattle.java_tree.specs.KeptPlaces.{kept, expr_places}
 use Rattle.java_tree.specs.Operators.{conditional_level}
 use Rattle.java_parser_grammar.specs.StatementReading.{label_at}
 use Rattle.java_parser_grammar.specs.JavaReaders.{method_readers}
 use Rattle.java_parser_types.specs.Tokens.{spelled}
+use Rattle.java_parser_types.proofs.LedMarks.{from_equal, to_equal}
 use Rattle.java_parser_types.proofs.ReadParts.{part_fails}
 use Rattle.java_parser_parts.proofs.labels.label.Goals as goal
 
@@ -23,3 +25,10 @@ returns-clause-gives c = rw (
   c.in_ok-rest.ensures.gives,
   c.into_inner.ensures,
 ) refl
+
+pub returns-clause-places : goal.returns-clause-places
+returns-clause-places c =
+    let puts = expr_places c.in_ok-value.value.tree.value in
+    rw c.into_inner.ensures (to_equal puts (kept c.args.tokens.now) (kept c.in_ok-value.rest.now)
+    (kept c.in_ok-rest.rest.now) c.in_ok-rest.ensures.places (from_equal puts (kept c.args.tokens.now)
+    (kept c.in-Some.after.now) (kept c.in_ok-value.rest.now) c.in-Some.ensures.places c.in_ok-value.ensures.places))

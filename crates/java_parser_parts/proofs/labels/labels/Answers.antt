@@ -34,8 +34,8 @@ loop-preserved c =
           (map spelled c.in_ok-next.after.now) c.loop-test.true
           (sym c.begins_label.ensures ∙ c.if-not-begins_label.false) c.in_ok-next.ensures.gives
           c.loop.invariant.gives);
-      places = rw c.in_ok-push.ensures.items (one_put label_places c.loop.items.items n (kept c.loop.rest.now)
-          (kept c.in_ok-next.after.now) _ c.in_ok-next.ensures.places c.loop.invariant.places);
+      places = rw c.in_ok-push.ensures.items (one_put label_places c.loop.items.items n (kept c.args.tokens.now)
+          (kept c.loop.rest.now) (kept c.in_ok-next.after.now) c.in_ok-next.ensures.places c.loop.invariant.places);
       shorter = omega (arith, c.in_ok-next.ensures.shorter, c.loop.invariant.shorter);
     }
 
@@ -44,7 +44,7 @@ loop-init c =
     let none : length (map spelled c.args.tokens.now) - 0 ≡ length (map spelled c.args.tokens.now) = omega arith in
     record {
       gives = rw (c.new-items.ensures.items, none) (alone _);
-      places = rw c.new-items.ensures.items refl;
+      places = rw c.new-items.ensures.items (λ rest led. led);
       shorter = omega arith;
     }
 

@@ -1,4 +1,4 @@
-use Rattle.std.proofs.Common.{◌≡◌, ◌-◌, ◌≤◌, ◌++◌, length, ap, ◌∙◌, rules}
+use Rattle.std.proofs.Common.{◌≡◌, ◌-◌, ◌≤◌, ◌++◌, ◌∙◌, rules}
 use Rattle.core_lowering_drafts.specs.Pieces.{all_parts}
 use Rattle.core_lowering_context.specs.Drafts.{code_of}
 use Rattle.core_lowering_context.proofs.Borders.{front-is, back-is}

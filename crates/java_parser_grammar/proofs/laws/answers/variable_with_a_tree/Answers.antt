@@ -1,4 +1,5 @@
 use Rattle.std.proofs.Common.{◌∷◌, [], codes, refl, sym, subst, arith}
+use Rattle.java_tree.specs.KeptPlaces.{kept, AreAt}
 use Rattle.java_parser_grammar.specs.FieldDivisions.{BeginsWith, IsInit}
 use Rattle.java_parser_grammar.specs.UnitExamples.{placed_texts}
 use Rattle.java_parser_grammar.proofs.laws.answers.variable_with_a_tree.Goals as goal
@@ -15,6 +16,6 @@ returns c = λ v i n p f e places. (
       nested = omega arith;
       spelled = refl;
     }),
-    places,
+    subst (λ ms. AreAt ms (kept (placed_texts 5 (codes "y" ∷ [])))) (sym places) (refl, tt),
   ),
 )

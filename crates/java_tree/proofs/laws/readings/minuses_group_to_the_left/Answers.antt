@@ -9,11 +9,12 @@ returns-clause-reads c =
         (
           tt,
           (
-            (tt, tt, refl, omega arith, omega arith),
+            (tt, tt, refl, omega arith, omega arith, refl),
             tt,
             refl,
             omega arith,
             omega arith,
+            refl,
           ),
           refl,
           refl,

@@ -3,4 +3,4 @@ use Rattle.java_tree.proofs.laws.readings.named_parentheses_before_a_sign.Goals 
 
 pub returns-clause-reads : goal.returns-clause-reads
 returns-clause-reads c =
-    record { spelled = refl; formed = ((tt, (tt, tt, refl, omega arith, omega arith), refl, refl), refl) }
+    record { spelled = refl; formed = ((tt, (tt, tt, refl, omega arith, omega arith, refl), refl, refl), refl) }

@@ -1,5 +1,0 @@
-use Rattle.core_lowering_locks.proofs.Unlocking.{arguments_unlock_nothing}
-use Rattle.core_lowering_locks.proofs.unlocking_values.is_unlock.Goals as goal
-
-pub returns-in-len1-up : goal.returns-in-len1-up
-returns-in-len1-up c = arguments_unlock_nothing c.args.x.now c.args.arguments.now c.in-len1-up.len_at_least

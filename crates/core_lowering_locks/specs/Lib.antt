@@ -1,0 +1,2 @@
+-- No public contract rests on this: the list of files.
+pub mod Seen

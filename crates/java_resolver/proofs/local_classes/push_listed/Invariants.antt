@@ -1,0 +1,8 @@
+use Rattle.std.proofs.Common.{◌≡◌, ◌++◌, drop, map}
+use Rattle.java_resolver.specs.Hidden.{parameter_name}
+use Rattle.java_resolver.proofs.local_classes.push_listed.Given as goal
+
+abbrev pub invariant-loop-parameter : goal.invariant-loop-parameter
+invariant-loop-parameter l =
+    l.names.items ++ map parameter_name (drop l.parameter-index l.parameters) ≡
+    l.fn.names.items ++ map parameter_name l.parameters
