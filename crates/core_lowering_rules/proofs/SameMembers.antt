@@ -36,9 +36,10 @@ use Rattle.java_tree.specs.SameUnits.{SameMember, SameClass}
 use Rattle.java_resolver.specs.declared.infos.ClassInfo.{ClassInfo}
 use Rattle.java_resolver.specs.declared.infos.FieldInfo.{FieldInfo}
 use Rattle.java_resolver.specs.declared.infos.MethodInfo.{MethodInfo}
-use Rattle.java_resolver.specs.Hidden.{hidden_in, parameter_name, parameter_names, classes_in_all}
+use Rattle.java_resolver.specs.Hidden.{hidden_in, classes_in_all}
 use Rattle.java_resolver.specs.TypeKinds.{kind_of, kind_with}
 use Rattle.java_resolver_parts.specs.LockTypes.{is_other, is_lock_type}
+use Rattle.java_resolver_parts.specs.TypeParameters.{parameter_name, parameter_names}
 use Rattle.java_resolver.specs.Words.{has_word, is_annotated}
 use Rattle.java_resolver.specs.Declarations.{has_synchronized, has_annotation, is_checked, class_info, field_info}
 use Rattle.java_resolver.specs.Declarations.{member_fields, class_fields, constructor_name, result_kind, is_constructor}

@@ -15,4 +15,5 @@ pub many_parts : (hidden classes : List (List ℕ)) (parts : List TypePart) → 
     Other ≡ base_kind hidden classes (Named (pack_parts (map part_of parts)))
 many_parts hidden classes [] many = absurd (omega arith)
 many_parts hidden classes (p ∷ []) many = absurd (omega arith)
-many_parts hidden classes (p ∷ q ∷ rest) many = two_parts hidden classes (part_of p) (part_of q) (pack_parts (map part_of rest))
+many_parts hidden classes (p ∷ q ∷ rest) many =
+    two_parts hidden classes (part_of p) (part_of q) (pack_parts (map part_of rest))

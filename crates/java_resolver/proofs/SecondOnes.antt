@@ -158,7 +158,8 @@ second_added first old new m number own is any some adds name key =
     (and_both (bytes_eq own name) (key_eq (0, m.class.0) key)
     ∙ ap (λ (text : List ℕ). key_eq (0, m.class.0) key && bytes_eq text name) is
     ∙ also there here
-    (at_own first m true (ap (λ (text : List ℕ). is_some (number_at first text (0, m.class.0))) (sym is) ∙ some) name key))
+    (at_own first m true (ap (λ (text : List ℕ). is_some (number_at first text (0, m.class.0))) (sym is) ∙ some) name
+    key))
     ∙ ap (λ b. or_added (there && (b && here)) number had) (sym any)
 
 -- the next method

@@ -1,16 +1,15 @@
--- A contract of a public call rests on this: the names that mean no class of the folder anywhere in a method: those of its
--- type parameters and of the local classes in its block (JLS 6.3, 6.4.1, 8.4.4, 14.3).
+-- A contract of a public call rests on this: the names that mean no class of the folder anywhere in a method: those of
+-- its type parameters and of the local classes in its block (JLS 6.3, 6.4.1, 8.4.4, 14.3).
 use Rattle.std.specs.Prelude.{ℕ, Bool, List, [], ◌∷◌, ◌++◌, Option, Some, None, bytes_eq, map}
 use Rattle.std.specs.List.{list_any}
 use Rattle.java_tree.specs.declared.methods.MethodTree.{MethodTree}
-use Rattle.java_tree.specs.declared.methods.TypeParameterTree.{TypeParameterTree}
-use Rattle.java_tree.specs.declared.methods.TypeParametersTree.{TypeParametersTree}
 use Rattle.java_tree.specs.Trees.{Stmt, Block, Local, Run, If, IfElse, For, ForEach, Labelled, LocalClass, Empty, Row}
 use Rattle.java_tree.specs.Trees.{Stmts, no_stmt, stmt_then, Pieces, no_piece, a_token, an_expr, maybe_an_expr}
 use Rattle.java_tree.specs.Trees.{maybe_a_name, maybe_behind, a_condition, a_body, a_block, maybe_resources}
 use Rattle.java_tree.specs.Trees.{a_catch_parameter, a_list, present, absent, some_part, a_switch, Groups, no_group}
 use Rattle.java_tree.specs.Trees.{group_then, Several, no_row, row_then, pack_stmts}
 use Rattle.java_tree.specs.View.{stmt_of}
+use Rattle.java_resolver_parts.specs.TypeParameters.{parameter_names}
 
 -- the names of the local classes that statements declare, at any depth; what is kept as tokens declares none
 abbrev mutual
@@ -61,13 +60,6 @@ abbrev mutual
 abbrev pub classes_in_last : Option Stmts → List (List ℕ)
 classes_in_last None = []
 classes_in_last (Some ss) = classes_in_all ss
-
-abbrev pub parameter_name : TypeParameterTree → List ℕ
-parameter_name p = p.name.text
-
-abbrev pub parameter_names : Option TypeParametersTree → List (List ℕ)
-parameter_names None = []
-parameter_names (Some ps) = map parameter_name ps.items
 
 abbrev pub hidden_in : MethodTree → List (List ℕ)
 hidden_in m = parameter_names m.type_parameters ++ classes_in_all (pack_stmts (map stmt_of m.body))

@@ -55,7 +55,8 @@ AreWithAny first second methods =
     × ((name : List ℕ) (key : Key) → number_at second name key ≡ second_that (method_with_any_at name key) methods)
 
 abbrev pub AreMethodNumbers : Named → WithAny → List MethodInfo → Type 0
-AreMethodNumbers numbers with_any methods = FindsFirsts method_at numbers methods × AreWithAny with_any.first with_any.second methods
+AreMethodNumbers numbers with_any methods =
+    FindsFirsts method_at numbers methods × AreWithAny with_any.first with_any.second methods
 
 abbrev pub AreFieldNumbers : Named → Named → List FieldInfo → Type 0
 AreFieldNumbers numbers static_numbers fields =

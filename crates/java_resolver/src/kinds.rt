@@ -35,7 +35,8 @@ pub fn class_seen(hidden: Option<&Hidden>, classes: &Classes, name: &str) -> Opt
 
 /// The kind of a type of this one name.
 fn part_kind(hidden: Option<&Hidden>, classes: &Classes, part: &TypePart) -> Kind
-    ensures { result ≡ base_kind (hidden_by (option_copied hidden.entry)) (class_names classes.now) (Named (part_then (part_of part.now) no_part)) }
+    ensures { result ≡ base_kind (hidden_by (option_copied hidden.entry)) (class_names classes.now)
+        (Named (part_then (part_of part.now) no_part)) }
 {
     match &part.arguments {
         Some(_) => Kind::Other,
@@ -48,7 +49,8 @@ fn part_kind(hidden: Option<&Hidden>, classes: &Classes, part: &TypePart) -> Kin
 
 /// The kind of a type of these names, without `[ ]`.
 fn named_kind(hidden: Option<&Hidden>, classes: &Classes, parts: &[TypePart]) -> Kind
-    ensures { result ≡ base_kind (hidden_by (option_copied hidden.entry)) (class_names classes.now) (Named (pack_parts (map part_of parts.now))) }
+    ensures { result ≡ base_kind (hidden_by (option_copied hidden.entry)) (class_names classes.now)
+        (Named (pack_parts (map part_of parts.now))) }
 {
     match parts {
         [part] => part_kind(hidden, classes, part),
@@ -83,7 +85,8 @@ pub fn variable_kind(
     tree: &TypeTree,
     further: u32,
 ) -> VariableKind
-    ensures { result ≡ variable_kind (hidden_by (option_copied hidden.entry)) (class_names classes.now) (ty_of tree.now) further }
+    ensures { result ≡ variable_kind (hidden_by (option_copied hidden.entry)) (class_names classes.now)
+        (ty_of tree.now) further }
 {
     let kind = kind_of(hidden, classes, tree);
     VariableKind {
@@ -110,7 +113,8 @@ pub fn result_kind(
     tree: &ResultTree,
     arrays: u32,
 ) -> Kind
-    ensures { result ≡ result_kind (hidden_by (option_copied hidden.entry)) (class_names classes.now) class tree.now arrays }
+    ensures { result ≡ result_kind (hidden_by (option_copied hidden.entry)) (class_names classes.now) class
+        tree.now arrays }
 {
     match tree {
         ResultTree::Constructor => Kind::Declared(class),

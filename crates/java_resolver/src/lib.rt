@@ -6,8 +6,8 @@
 //! The lists are gathered first and judged after, so that gathering is an equation with one error, and the order of
 //! refusals is the order of calls in `resolve`. Fields are kept a second time by those that are static, so that a name
 //! in a static method is looked up once too. A constructor is named `<new>`, which is no name of Java, and is an
-//! instance method; a class that declares none has one first among its methods, at the place of its name. Which names mean
-//! no class in a method is kept with the method, since each type and name in it is asked for that.
+//! instance method; a class that declares none has one first among its methods, at the place of its name. Which names
+//! mean no class in a method is kept with the method, since each type and name in it is asked for that.
 #![tactic(auto)]
 
 mod classes;

@@ -3,36 +3,12 @@ ghost use Rattle.std.specs.Prelude.{◌≡◌, ◌++◌, map, option_map, IfOk, 
 ghost use Rattle.java_tree.specs.Trees.{pack_stmts};
 ghost use Rattle.java_tree.specs.View.{stmt_of, try_of, catch_of, group_of, pack_rows, pack_groups};
 ghost use Rattle.java_resolver.specs.Hidden.{classes_in, classes_in_all, classes_in_pieces, classes_in_several};
-ghost use Rattle.java_resolver.specs.Hidden.{classes_in_groups, classes_in_last};
-ghost use Rattle.java_resolver.specs.Hidden.{parameter_name, parameter_names, hidden_in};
+ghost use Rattle.java_resolver.specs.Hidden.{classes_in_groups, classes_in_last, hidden_in};
 
-use java_tree::{
-    Apart, CatchTree, GroupTree, MethodTree, Statement, TryTree, TypeParameterTree,
-    TypeParametersTree,
-};
+use java_resolver_parts::push_type_parameters;
+use java_tree::{CatchTree, GroupTree, MethodTree, Statement, TryTree};
 use racer_base::{Memory, Text};
 use std::alloc::Global;
-
-fn push_listed(names: &mut Vec<Text>, parameters: &[TypeParameterTree]) -> Result<(), Memory>
-    ensures { OnOk result (names.new.items ≡ names.old.items ++ map parameter_name parameters.now) }
-{
-    for parameter in parameters {
-        names.push(parameter.name.text.clone()?)?;
-    }
-    Ok(())
-}
-
-fn push_parameters(
-    names: &mut Vec<Text>,
-    parameters: &Option<Apart<TypeParametersTree>>,
-) -> Result<(), Memory>
-    ensures { OnOk result (names.new.items ≡ names.old.items ++ parameter_names parameters.now) }
-{
-    match parameters {
-        Some(parameters) => push_listed(names, parameters.get().items.as_slice()),
-        None => Ok(()),
-    }
-}
 
 /// Adds the local classes of a statement.
 #[cycle(local_classes)]
@@ -130,7 +106,7 @@ pub fn names_in(alloc: Global, method: &MethodTree) -> Result<Vec<Text>, Memory>
     ensures { IfOk result (λ names. names.items ≡ hidden_in method.now) }
 {
     let mut names = Vec::new(alloc);
-    push_parameters(&mut names, &method.type_parameters)?;
+    push_type_parameters(&mut names, &method.type_parameters)?;
     push_all(&mut names, method.body.as_slice())?;
     Ok(names)
 }

@@ -20,7 +20,7 @@ use crate::infos::MethodInfo;
 use crate::kinds::{head_kind, parameter_kind, result_kind};
 use crate::with_any::{WithAny, is_enough, with_any_numbers};
 use crate::words::{has_word, is_annotated};
-use java_resolver_parts::{Named, add_number, no_numbers, number_at, number_of};
+use java_resolver_parts::{Named, add_number, method_meant, no_numbers, number_at, number_of};
 use java_tree::{
     ClassTree, HeadResult, Member, MethodTree, OutsideHead, ParameterTree, ResultTree,
 };
@@ -98,10 +98,10 @@ impl Methods {
     pub fn named(&self, class: ClassId, name: &str, count: u32) -> Option<MethodId>
         ensures { result ≡ found self.now class name.now count }
     {
-        match self.exactly_named(class, name, count) {
-            Some(m) => Some(m),
-            None => self.named_with_any(class, name, count),
-        }
+        method_meant(
+            self.exactly_named(class, name, count),
+            self.named_with_any(class, name, count),
+        )
     }
 }
 

@@ -17,8 +17,8 @@ pub struct ScopeVariable {
     pub is_lock: bool,
 }
 
-/// Where a name stands: in which class, in a static method or not, which names mean no class there, and the variables in
-/// scope, parameters first and the innermost local last.
+/// Where a name stands: in which class, in a static method or not, which names mean no class there, and the variables
+/// in scope, parameters first and the innermost local last.
 #[derive(Drop)]
 pub struct Scope {
     pub class: ClassId,

@@ -57,7 +57,8 @@ impl Table {
 
     /// The class of a name, where some names mean none.
     pub fn class_named(&self, hidden: Option<&Hidden>, name: &str) -> Option<ClassId>
-        ensures { result ≡ class_seen (hidden_by (option_copied hidden.entry)) (class_names (classes self.now)) name.now }
+        ensures { result ≡ class_seen (hidden_by (option_copied hidden.entry)) (class_names (classes self.now))
+            name.now }
     {
         class_seen(hidden, &self.classes, name)
     }

@@ -1,8 +1,13 @@
-//! What the resolver is made of: which fields are lock fields, and numbers by names and keys.
+//! What the resolver is made of: which fields are lock fields, numbers by names and keys, the names of type parameters,
+//! and which of two methods a call means.
 #![tactic(auto)]
 
+mod calls;
 mod locks;
 mod numbers;
+mod type_parameters;
 
+pub use calls::method_meant;
 pub use locks::is_lock;
 pub use numbers::{Key, Named, add_number, no_numbers, number_at, number_of};
+pub use type_parameters::push_type_parameters;

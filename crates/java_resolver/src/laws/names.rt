@@ -52,8 +52,8 @@ pub fn methods_found()
     ensures other_name { found (method 0 (codes "f") 1 1 ∷ []) (class 0) (codes "g") 1 ≡ None }
 {}
 
-/// Where no method has this number of parameters, the only one whose last parameter takes any number is found, where the
-/// arguments are enough for the others (JLS 15.12.2).
+/// Where no method has this number of parameters, the only one whose last parameter takes any number is found, where
+/// the arguments are enough for the others (JLS 15.12.2).
 pub fn methods_found_with_any()
     ensures more { found (method_with_any 0 (codes "f") 1 2 ∷ []) (class 0) (codes "f") 5 ≡ Some (record { 0 = 0 }) }
     ensures one_less { found (method_with_any 0 (codes "f") 1 2 ∷ []) (class 0) (codes "f") 1
@@ -69,7 +69,8 @@ pub fn methods_found_with_any()
 
 /// A name that is hidden means no class, as a type and as a name; `[ ]` behind a name make its type another one.
 pub fn names_hidden()
-    ensures hidden_type { kind_of (codes "A" ∷ []) (codes "A" ∷ codes "B" ∷ []) (named_type (Bare (codes "A"))) ≡ kind.Other }
+    ensures hidden_type { kind_of (codes "A" ∷ []) (codes "A" ∷ codes "B" ∷ []) (named_type (Bare (codes "A")))
+        ≡ kind.Other }
     ensures other_type { kind_of (codes "A" ∷ []) (codes "A" ∷ codes "B" ∷ []) (named_type (Bare (codes "B")))
         ≡ kind.Declared (class 1) }
     ensures name { meaning (info (codes "A") 1 ∷ []) [] (record (scope 0 false []) { hidden = codes "A" ∷ [] })

@@ -1,6 +1,6 @@
 use Rattle.std.proofs.Common.{◌≡◌, ◌++◌, drop, map}
-use Rattle.java_resolver.specs.Hidden.{parameter_name}
-use Rattle.java_resolver.proofs.local_classes.push_listed.Given as goal
+use Rattle.java_resolver_parts.specs.TypeParameters.{parameter_name}
+use Rattle.java_resolver_parts.proofs.type_parameters.push_listed.Given as goal
 
 abbrev pub invariant-loop-parameter : goal.invariant-loop-parameter
 invariant-loop-parameter l =

@@ -1,8 +1,8 @@
 use Rattle.std.proofs.Common.{ℕ, List, [], ◌∷◌, ◌++◌, map, refl, ap, ◌∙◌, arith}
 use Rattle.java_tree.specs.declared.methods.TypeParameterTree.{TypeParameterTree}
 use Rattle.racer_base.proofs.Lists.{at_end, one_turn}
-use Rattle.java_resolver.specs.Hidden.{parameter_name}
-use Rattle.java_resolver.proofs.local_classes.push_listed.Goals as goal
+use Rattle.java_resolver_parts.specs.TypeParameters.{parameter_name}
+use Rattle.java_resolver_parts.proofs.type_parameters.push_listed.Goals as goal
 
 pub loop-parameter-preserved : goal.loop-parameter-preserved
 loop-parameter-preserved c =
