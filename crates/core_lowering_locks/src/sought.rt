@@ -179,7 +179,8 @@ fn do_clauses_stand(sought: Sought, clauses: &[CatchTree]) -> bool
 #[cycle(sought)]
 fn do_parts_stand(sought: Sought, tried: &TryTree) -> bool
     ensures { result ≡ (wanted.do_resources_stand (sought_seen sought.entry) (resources_in tried.now)
-        || wanted.do_any_stand (sought_seen sought.entry) (body_of tried.now) || wanted.do_clauses_stand (sought_seen sought.entry) (clauses_of tried.now)) }
+        || wanted.do_any_stand (sought_seen sought.entry) (body_of tried.now)
+        || wanted.do_clauses_stand (sought_seen sought.entry) (clauses_of tried.now)) }
 {
     do_resources_stand(sought, &tried.resources)
         || do_any_stand(sought, tried.body.as_slice())

@@ -105,7 +105,8 @@ fn does_either_stand(sought: Sought, a: &Expression, b: &Expression) -> bool
 #[cycle(sought_values)]
 fn does_call_on_stand(sought: Sought, e: &Expression, x: &Ident, all: &[Expression]) -> bool
     ensures { result
-        ≡ wanted.does_stand (sought_seen sought.entry) (CallOn (expr_of e.now) x.now (pack_exprs (map expr_of all.now))) }
+        ≡ wanted.does_stand (sought_seen sought.entry)
+        (CallOn (expr_of e.now) x.now (pack_exprs (map expr_of all.now))) }
 {
     is_call_sought(sought, x, all) || does_stand(sought, e) || do_exprs_stand(sought, all)
 }

@@ -13,7 +13,8 @@ use Rattle.core_lowering_rules.specs.Trees.{Throw, Break, Continue, Labelled, As
 use Rattle.core_lowering_rules.specs.Trees.{Resource, lock_before, joined, put_before, pack_stmts}
 use Rattle.core_lowering_rules.specs.Trees.{run_call, do_unlock}
 use Rattle.core_lowering_rules.specs.TreesOf.{stmt_of, catch_of, try_of, tried}
-use Rattle.core_lowering_locks_pairs.specs.Seen.{lock_for, finally_of, lock_behind, body_of, clauses_of, stand, has_resource}
+use Rattle.core_lowering_locks_pairs.specs.Seen.{lock_for, finally_of, lock_behind, body_of, clauses_of, stand}
+use Rattle.core_lowering_locks_pairs.specs.Seen.{has_resource}
 use Rattle.core_lowering_locks_pairs.specs.Seen.{under, resources_in}
 
 -- ---- a statement before others

@@ -9,7 +9,8 @@ use Rattle.java_tree.specs.declared.words.Ident.{Ident}
 use Rattle.java_tree.specs.declared.expressions.Expression.{Expression}
 use Rattle.java_tree.specs.declared.expressions.Expression as form
 use Rattle.java_tree.specs.declared.expressions.Expression.TheFolds.{the_lemmas}
-use Rattle.core_lowering_rules.specs.Trees.{Expr, CallOn, pack_exprs, Access, Prim, Unknown, Null, Binary, Logical, Unary}
+use Rattle.core_lowering_rules.specs.Trees.{Expr, CallOn, pack_exprs, Access, Prim, Unknown, Null, Binary, Logical}
+use Rattle.core_lowering_rules.specs.Trees.{Unary}
 use Rattle.core_lowering_rules.specs.Trees.{Count}
 use Rattle.core_lowering_rules.specs.Trees.{Assign, Combine, is_this, simple_name, own_name, plain_call}
 use Rattle.core_lowering_rules.specs.TreesOf.{binary, prefix, assignment, literal, is_logical, is_count, is_assignment}

@@ -10,7 +10,8 @@ use Rattle.core_lowering_rules.specs.Trees.{Expr, Stmt, Stmts, Start, Groups, Re
 use Rattle.core_lowering_rules.specs.Trees.{Block, Locked, Try}
 use Rattle.core_lowering_rules.specs.Locks.{is_stored_in, lock_kept, lock_noted}
 use Rattle.core_lowering_rules.specs.Context.{Folder, Context, Result, Target, variable_kind_in}
-use Rattle.core_lowering_rules.specs.Scopes.{of_type, of_catch, started, back_in, back_from, in_loop, in_switch, in_guard}
+use Rattle.core_lowering_rules.specs.Scopes.{of_type, of_catch, started, back_in, back_from, in_loop, in_switch}
+use Rattle.core_lowering_rules.specs.Scopes.{in_guard}
 use Rattle.core_lowering_rules.specs.Scopes.{in_labelled, out_of_guard, with_resources, unlocked_in, after, after_all}
 use Rattle.core_lowering_rules.specs.Scopes.{after_groups, caught, caught_behind}
 use Rattle.core_lowering_rules.proofs.ScopeSteps.{sides_of}

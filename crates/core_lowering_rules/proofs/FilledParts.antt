@@ -83,7 +83,8 @@ each-filled (v ∷ vs) rest =
     (variable-filled v (each_puts (map variable_places vs) rest)) (each-filled vs rest)
 
 pub locals-filled : (l : LocalsTree) (rest : Marks)
-    → variables (viewed.locals_of l) (kept_of (locals_places l rest)) ≡ filled (map variable_of l.variables) (kept_of rest)
+    → variables (viewed.locals_of l) (kept_of (locals_places l rest))
+    ≡ filled (map variable_of l.variables) (kept_of rest)
 locals-filled l rest =
     let from = each_puts (map variable_places l.variables) rest in
     ap (variables (viewed.locals_of l))
@@ -243,7 +244,8 @@ maybe-condition None rest = refl
 maybe-condition (Some e) rest = one-is Some (condition-is e rest)
 
 pub name-filled : (o : Option Ident) (rest : Marks)
-    → maybe named (option_map viewed.name_of o) (kept_of (maybe_puts (option_map name_places o) rest)) ≡ filled o (kept_of rest)
+    → maybe named (option_map viewed.name_of o) (kept_of (maybe_puts (option_map name_places o) rest))
+    ≡ filled o (kept_of rest)
 name-filled None rest = refl
 name-filled (Some x) rest = refl
 
@@ -277,7 +279,8 @@ label-filled (labels.Case e) rest = one-is Some (expr-is e rest)
 label-filled labels.Default rest = refl
 
 pub labels-filled : (ls : List LabelTree) (rest : Marks)
-    → each label (map viewed.label_of ls) (kept_of (each_puts (map label_places ls) rest)) ≡ filled (map label_of ls) (kept_of rest)
+    → each label (map viewed.label_of ls) (kept_of (each_puts (map label_places ls) rest))
+    ≡ filled (map label_of ls) (kept_of rest)
 labels-filled [] rest = refl
 labels-filled (l ∷ ls) rest =
     two-is (λ (y : Option Expr) ys. y ∷ ys) (each label (map viewed.label_of ls))

@@ -47,17 +47,21 @@ HasStmt s = (rest : Marks) → stmt (viewed.stmt_of s) (kept_of (stmt_places s r
 -- catch clauses, groups, and a `try` of its parts
 abbrev HasCatch : CatchTree → Type 0
 HasCatch c =
-    (rest : Marks) → clause (viewed.catch_of c) (kept_of (kept.catch_places c rest)) ≡ filled (lowered.catch_of c) (kept_of rest)
+    (rest : Marks) → clause (viewed.catch_of c) (kept_of (kept.catch_places c rest))
+    ≡ filled (lowered.catch_of c) (kept_of rest)
 
 abbrev group_seen : viewed.Group → Places → Filled lowered.Group
 group_seen g ps = two (λ ls ss. (ls, ss)) (each label g.0 ps) (stmts g.1)
 
 abbrev HasGroup : GroupTree → Type 0
 HasGroup g =
-    (rest : Marks) → group_seen (viewed.group_of g) (kept_of (kept.group_places g rest)) ≡ filled (lowered.group_of g) (kept_of rest)
+    (rest : Marks) → group_seen (viewed.group_of g) (kept_of (kept.group_places g rest))
+    ≡ filled (lowered.group_of g) (kept_of rest)
 
 abbrev HasTry : TryTree → Type 0
-HasTry t = (rest : Marks) → stmt (viewed.try_of t) (kept_of (kept.try_places t rest)) ≡ filled (lowered.try_of t) (kept_of rest)
+HasTry t =
+    (rest : Marks) → stmt (viewed.try_of t) (kept_of (kept.try_places t rest))
+    ≡ filled (lowered.try_of t) (kept_of rest)
 
 abbrev Stmts : Type 0
 Stmts = (s : Statement) × HasStmt s
@@ -110,7 +114,8 @@ of s = stmt (viewed.stmt_of s.0)
 -- ---- one layer
 
 parts-filled : (ss : List Stmts) (rest : Marks)
-    → stmts (view.pack_stmts (map viewed.stmt_of (plain_all ss))) (kept_of (each_puts (map stmt_places (plain_all ss)) rest))
+    → stmts (view.pack_stmts (map viewed.stmt_of (plain_all ss)))
+    (kept_of (each_puts (map stmt_places (plain_all ss)) rest))
     ≡ filled (pack_stmts (map stmt_of (plain_all ss))) (kept_of rest)
 parts-filled [] rest = refl
 parts-filled (s ∷ ss) rest =
@@ -153,8 +158,8 @@ stmt-filled (statement.For i c updates s) rest =
     (all-filled updates.items last) (s.value.1 rest)
 stmt-filled (statement.ForEach v e s) rest =
     let last = name_places v.name (expr_places e (stmt_places s.value.0 rest)) in
-    let each_of = λ (ps : Places). two (ForEach (ty_of v.kind) (ident v.name.text ps)) (expr (viewed.expr_of e) (behind ps))
-    (of s.value) in
+    let each_of = λ (ps : Places). two (ForEach (ty_of v.kind) (ident v.name.text ps))
+    (expr (viewed.expr_of e) (behind ps)) (of s.value) in
     ap (λ ps. each_of (skip (ty_count (ty_of v.kind)) ps))
     (each-passed modifier_marks modifier-passed v.modifiers (some_onto (ty_places v.kind) last))
     ∙ type-behind v.kind each_of last
@@ -350,7 +355,8 @@ of_parts rs body cs finally = record { resources = rs; body = body; clauses = cs
 abbrev TryFilled : TryLayer → Type 0
 TryFilled y =
     (rest : Marks)
-    → stmt (try_viewed_in (plain_try y)) (kept_of (try_places_in (plain_try y) rest)) ≡ filled (try_lowered_in (plain_try y)) (kept_of rest)
+    → stmt (try_viewed_in (plain_try y)) (kept_of (try_places_in (plain_try y) rest))
+    ≡ filled (try_lowered_in (plain_try y)) (kept_of rest)
 
 parts-tried : (rs : Option ResourcesTree) (body : Vec Stmts Global) (cs : Vec Catches Global)
     (finally : Option (Vec Stmts Global)) → TryFilled (of_parts rs body cs finally)

@@ -28,7 +28,8 @@ use Rattle.core_lowering_rules.specs.TreesOf as lowered
 use Rattle.core_lowering_rules.proofs.PlacedTrees.{PlacedStmt}
 use Rattle.core_lowering_rules.proofs.PlacedTrees.{PlacedStmts, PlacedGroups}
 use Rattle.core_lowering_rules.proofs.PlacedTrees.{put-placed}
-use Rattle.core_lowering_rules.proofs.KeptTrees.{Splits, behind, behind_tokens, behind_modifiers, front, after, all-kept}
+use Rattle.core_lowering_rules.proofs.KeptTrees.{Splits, behind, behind_tokens, behind_modifiers, front, after}
+use Rattle.core_lowering_rules.proofs.KeptTrees.{all-kept}
 use Rattle.core_lowering_rules.proofs.KeptTrees.{some-kept, locals-kept}
 use Rattle.core_lowering_rules.proofs.KeptTrees.{start-kept, tested-kept, resources-kept, labels-kept, name-kept}
 use Rattle.core_lowering_rules.proofs.KeptTrees.{expr-kept}
@@ -141,7 +142,8 @@ module _ (test : Place → Bool) where
       let name = Some v.name.place ∷ expr_places e last in
       let p = expr-kept test e last
       (after test v.name.place (expr_places e last)
-      (behind test (ty_places v.kind) name (behind_modifiers test v.modifiers (some_onto (ty_places v.kind) name) h))) in
+      (behind test (ty_places v.kind) name
+      (behind_modifiers test v.modifiers (some_onto (ty_places v.kind) name) h))) in
       let q = s.value.1 rest p.1 in ((p.0, q.0), q.1)
   stmt-split (statement.Sync place e ss) rest h =
       let last = each_puts (map stmt_places (plain_all ss.items)) rest in
@@ -204,7 +206,8 @@ module _ (test : Place → Bool) where
       let last = each_puts (map stmt_places (plain_all y.body.items)) rest in
       let q = stmts-split y.body.items rest
       (after test p.name.place last (behind test (all_places (map ty_places p.types)) (Some p.name.place ∷ last)
-      (behind_modifiers test p.modifiers (some_onto (all_places (map ty_places p.types)) (Some p.name.place ∷ last)) h))) in
+      (behind_modifiers test p.modifiers
+      (some_onto (all_places (map ty_places p.types)) (Some p.name.place ∷ last)) h))) in
       (tt, q.1)
 
   catch-has : (x : PlainCatch) (y : CatchLayer) → plain_catch y ≡ x → HasCatch (roll-CatchTree x)

@@ -30,8 +30,10 @@ use Rattle.java_tree.specs.KeptPlaces.{Puts, each_puts, maybe_puts, name_places,
 use Rattle.java_tree.specs.KeptPlaces.{array_places, variable_places, locals_places, start_places}
 use Rattle.java_tree.specs.KeptPlaces.{label_places}
 use Rattle.java_tree.specs.KeptPlaces.{resource_places, resources_places}
-use Rattle.core_lowering_rules.specs.Trees.{Expr, Unknown, This, ClassOf, Read, Unary, Cast, Binary, Logical, Conditional}
-use Rattle.core_lowering_rules.specs.Trees.{Assign, Combine, Count, Call, CallOn, New, NewBody, NewArray, NewItems, Paren}
+use Rattle.core_lowering_rules.specs.Trees.{Expr, Unknown, This, ClassOf, Read, Unary, Cast, Binary, Logical}
+use Rattle.core_lowering_rules.specs.Trees.{Conditional}
+use Rattle.core_lowering_rules.specs.Trees.{Assign, Combine, Count, Call, CallOn, New, NewBody, NewArray, NewItems}
+use Rattle.core_lowering_rules.specs.Trees.{Paren}
 use Rattle.core_lowering_rules.specs.Trees.{ThisOf, Refer}
 use Rattle.core_lowering_rules.specs.Trees as tree
 use Rattle.core_lowering_rules.specs.Trees.{Stmt, pack_exprs, pack_inits, pack_stmts, pack_groups}
@@ -61,7 +63,8 @@ module _ (test : Place → Bool) where
         OfExpr = λ v puts t. Splits puts (PlacedExpr test t);
         OfInit = λ v puts t. Splits puts (PlacedInit test t);
         OfBehind = λ v puts t. Splits puts (Unit {0});
-        OfMade = λ v puts made. (place : Place) (t : Ty) → test place ≡ true → Splits puts (PlacedExpr test (made place t));
+        OfMade = λ v puts made. (place : Place) (t : Ty) → test place ≡ true →
+            Splits puts (PlacedExpr test (made place t));
         OfBefore = λ v puts t. Splits puts (PlacedExpr test (Refer t));
         OfArray = λ v puts t. Splits puts (PlacedInits test t);
       }
@@ -331,7 +334,8 @@ module _ (test : Place → Bool) where
       let p = expr-kept r.value others
       (after r.name.place (expr_places r.value others)
       (behind (ty_places r.kind) (Some r.name.place ∷ expr_places r.value others)
-      (behind_modifiers r.modifiers (some_onto (ty_places r.kind) (Some r.name.place ∷ expr_places r.value others)) h))) in
+      (behind_modifiers r.modifiers
+      (some_onto (ty_places r.kind) (Some r.name.place ∷ expr_places r.value others)) h))) in
       let q = list-kept rs rest p.1 in ((p.0, q.0), q.1)
 
   pub resources-kept : (o : Option ResourcesTree) →

@@ -1,5 +1,6 @@
 -- Calls and object creations are kinded.
-use Rattle.std.proofs.Common.{◌≡◌, ◌≤◌, ℕ, suc, ◌+◌, ◌-◌, ◌==◌, Bool, true, false, cond, List, [], ◌∷◌, ◌++◌, Option, Some, None}
+use Rattle.std.proofs.Common.{◌≡◌, ◌≤◌, ℕ, suc, ◌+◌, ◌-◌, ◌==◌, Bool, true, false, cond, List, [], ◌∷◌, ◌++◌, Option}
+use Rattle.std.proofs.Common.{Some, None}
 use Rattle.std.proofs.Common.{length, take, refl, sym, ap, ◌∙◌, subst, arith, append_assoc}
 use Rattle.std.proofs.Common.{length-append, reverse}
 use Rattle.std.proofs.lemmas.List.{length-take-le}
@@ -30,7 +31,8 @@ use Rattle.core_lowering_rules.specs.Context.{Context, Code, op_at, op, push_thi
 use Rattle.core_lowering_rules.specs.Calls.{Callee, Missing, OfClass, OfObject, info_at, callee_of, callee_found}
 use Rattle.core_lowering_rules.specs.Calls.{callee_in}
 use Rattle.core_lowering_rules.specs.Calls.{if_static, own_callee, callee_on, result_of, result_kind}
-use Rattle.core_lowering_rules.specs.Calls.{parameters_of, given_kinds, parameter_kinds, gathered, call_of, call_at, Passing, called}
+use Rattle.core_lowering_rules.specs.Calls.{parameters_of, given_kinds, parameter_kinds, gathered, call_of, call_at}
+use Rattle.core_lowering_rules.specs.Calls.{Passing, called}
 use Rattle.core_lowering_rules.specs.Calls.{called_on_value}
 use Rattle.core_lowering_rules.specs.Calls.{called_on}
 use Rattle.core_lowering_rules.specs.Calls.{constructor_of, constructor_among, made_by, made}

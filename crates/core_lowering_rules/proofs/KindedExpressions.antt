@@ -10,10 +10,12 @@ use Rattle.core_code.specs.declared.code.Op.TheVariants.{PushClass, PushPrim, Pu
 use Rattle.core_code.specs.Core.{Core, Method}
 use Rattle.core_code.specs.Kinds.{Plain, Declared, Class, Null, Opaque, joined_kind}
 use Rattle.core_code.proofs.KindLemmas.{class_same}
-use Rattle.core_lowering_rules.specs.Trees.{Expr, Unknown, This, ClassOf, Read, Unary, Cast, Binary, Logical, Conditional}
+use Rattle.core_lowering_rules.specs.Trees.{Expr, Unknown, This, ClassOf, Read, Unary, Cast, Binary, Logical}
+use Rattle.core_lowering_rules.specs.Trees.{Conditional}
 use Rattle.core_lowering_rules.specs.Trees.{Assign}
 use Rattle.core_lowering_rules.specs.Trees as tree
-use Rattle.core_lowering_rules.specs.Trees.{Combine, Count, Call, CallOn, New, NewBody, NewArray, NewItems, Paren, Access, Named}
+use Rattle.core_lowering_rules.specs.Trees.{Combine, Count, Call, CallOn, New, NewBody, NewArray, NewItems, Paren}
+use Rattle.core_lowering_rules.specs.Trees.{Access, Named}
 use Rattle.core_lowering_rules.specs.Trees.{ThisOf, Refer, ToExpr, ToType}
 use Rattle.core_lowering_rules.specs.Trees.{Selected, Element, NoAccess, Exprs, no_expr, expr_then, Init, Value}
 use Rattle.core_lowering_rules.specs.Trees.{Items, Inits}
@@ -148,7 +150,8 @@ module _ (core : Core) (m : Method) (context : Context) (stands : Stands core m 
       }
 
   this_of-leaves : (b : Bool) →
-      Leaves core m (cond b (this_object context) (op context (Outside 0))) (cond b (this_kind context) (Of types.Other))
+      Leaves core m (cond b (this_object context) (op context (Outside 0)))
+      (cond b (this_kind context) (Of types.Other))
   this_of-leaves true = this-by context.scope.is_static refl
   this_of-leaves false = record { leaves = λ stack. (Opaque, tt, outside core m context.place [] stack 0 refl) }
 

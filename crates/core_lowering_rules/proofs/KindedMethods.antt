@@ -278,7 +278,8 @@ IsRightResult info (result.Of t) = Unit {0}
 abbrev pub IsRight : List (List ℕ) → MethodInfo → Body → Type 0
 IsRight names info Default =
     (info.result ≡ types.Declared info.class) × (info.is_static ≡ false) × (info.parameters ≡ [])
-IsRight names info (Spelled t) = IsRightResult info t.result × (info.parameters ≡ kinds_of info.hidden names t.parameters)
+IsRight names info (Spelled t) =
+    IsRightResult info t.result × (info.parameters ≡ kinds_of info.hidden names t.parameters)
 IsRight names info Unspelled = Unit {0}
 
 module _ (core : Core) (folder : Folder) (known : FolderStands core folder) (info : MethodInfo) (members : List Member)

@@ -377,7 +377,8 @@ module _ (core : Core) (m : Method) where
         let outer_stands = declared-stands core m context known x s begins in
         let stands = loop-stands outer outer_stands in
         let first = keeps-value core m (followed core m (outside core m context.place [] [] 0 refl)
-        (set-drops context s (next_variable context) k Opaque (declared-there m context known x begins) (fits-opaque k))) in
+        (set-drops context s (next_variable context) k Opaque (declared-there m context known x begins)
+        (fits-opaque k))) in
         closed-keeps context behind (after-stands core m inside b stands own) (both (run-keeps context s e)
         (broken-keeps outer false (stmt inside b) (keeps-loop core m
         (both first (round-keeps outer (stmt-keeps inside stands b own))))))

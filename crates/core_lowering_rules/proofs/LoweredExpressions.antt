@@ -1,5 +1,6 @@
 -- A fact of lowered code holds of the code of all expressions.
-use Rattle.std.proofs.Common.{◌≡◌, ℕ, suc, ◌-◌, ◌==◌, length, Bool, true, false, cond, List, [], ◌∷◌, ◌++◌, Option, Some, None, refl}
+use Rattle.std.proofs.Common.{◌≡◌, ℕ, suc, ◌-◌, ◌==◌, length, Bool, true, false, cond, List, [], ◌∷◌, ◌++◌, Option}
+use Rattle.std.proofs.Common.{Some, None, refl}
 use Rattle.std.proofs.Common.{subst, sym}
 use Rattle.std.proofs.lemmas.Option.{same_Some, none-some}
 use Rattle.racer_base.specs.declared.ids.ClassId.{ClassId}
@@ -19,8 +20,10 @@ use Rattle.core_code.specs.declared.code.Reason.{Reason}
 use Rattle.core_code.specs.declared.code.Op.{Op as CoreOp}
 use Rattle.core_code.specs.declared.code.Op.TheVariants.{Push, PushClass, PushPrim, PushNull, New as NewOp, Dup, Drop}
 use Rattle.core_code.specs.declared.code.Op.TheVariants.{Get, Put, Set, Prim, Outside, Call as CallOp, Unread}
-use Rattle.core_lowering_rules.specs.Trees.{Expr, Unknown, This, ClassOf, Read, Unary, Cast, Binary, Logical, Conditional}
-use Rattle.core_lowering_rules.specs.Trees.{Assign, Combine, Count, Call, CallOn, New, NewBody, NewArray, NewItems, Paren}
+use Rattle.core_lowering_rules.specs.Trees.{Expr, Unknown, This, ClassOf, Read, Unary, Cast, Binary, Logical}
+use Rattle.core_lowering_rules.specs.Trees.{Conditional}
+use Rattle.core_lowering_rules.specs.Trees.{Assign, Combine, Count, Call, CallOn, New, NewBody, NewArray, NewItems}
+use Rattle.core_lowering_rules.specs.Trees.{Paren}
 use Rattle.core_lowering_rules.specs.Trees.{ThisOf, Refer, ToExpr, ToType}
 use Rattle.core_lowering_rules.specs.Trees.{Access}
 use Rattle.core_lowering_rules.specs.Trees.{Named, Selected, Element, NoAccess, Exprs, no_expr, expr_then, Init, Value}
@@ -37,7 +40,8 @@ use Rattle.core_lowering_rules.specs.Assignments.{of_class, of_object, selected,
 use Rattle.core_lowering_rules.specs.Assignments.{counted, field_at}
 use Rattle.core_lowering_rules.specs.Calls.{Callee, Missing, OfClass, OfObject, info_at, callee_of, callee_found}
 use Rattle.core_lowering_rules.specs.Calls.{callee_in}
-use Rattle.core_lowering_rules.specs.Calls.{if_static, own_callee, callee_on, parameters_of, parameter_kinds, with_object, call_at}
+use Rattle.core_lowering_rules.specs.Calls.{if_static, own_callee, callee_on, parameters_of, parameter_kinds}
+use Rattle.core_lowering_rules.specs.Calls.{with_object, call_at}
 use Rattle.core_lowering_rules.specs.Calls.{Passing, called, called_on_value, called_on, constructor_of}
 use Rattle.core_lowering_rules.specs.Calls.{constructor_among}
 use Rattle.core_lowering_rules.specs.Calls.{constructor_in, made_by, made}

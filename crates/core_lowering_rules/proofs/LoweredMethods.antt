@@ -26,7 +26,8 @@ use Rattle.core_lowering_rules.specs.Assignments.{Storage, of_name, kind_in}
 use Rattle.core_lowering_rules.specs.Expressions.{init_kind}
 use Rattle.core_lowering_rules.specs.Scopes.{after_all}
 use Rattle.core_lowering_rules.specs.Statements.{returned, closed, stmts}
-use Rattle.core_lowering_rules.specs.Methods.{Body, Default, Spelled, Unspelled, Source, parameters_declared, outside_methods, unread}
+use Rattle.core_lowering_rules.specs.Methods.{Body, Default, Spelled, Unspelled, Source, parameters_declared}
+use Rattle.core_lowering_rules.specs.Methods.{outside_methods, unread}
 use Rattle.core_lowering_rules.specs.Methods.{field_begun, member_begun, fields_begun, body_of, locked, ended}
 use Rattle.core_lowering_rules.specs.Methods.{spelled_code, code_in, kinds_in, is_large}
 use Rattle.core_lowering_rules.specs.Conditions.{initialiser_places, variable_places, member_places}

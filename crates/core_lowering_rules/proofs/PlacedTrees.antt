@@ -4,8 +4,10 @@ use Rattle.std.proofs.Common.{refl, subst}
 use Rattle.std.specs.Prelude.{bytes_eq}
 use Rattle.java_tree.specs.declared.words.Ident.{Ident}
 use Rattle.racer_base.specs.declared.ids.Place.{Place}
-use Rattle.core_lowering_rules.specs.Trees.{Expr, Unknown, This, ClassOf, Read, Unary, Cast, Binary, Logical, Conditional}
-use Rattle.core_lowering_rules.specs.Trees.{Assign, Combine, Count, Call, CallOn, New, NewBody, NewArray, NewItems, Paren}
+use Rattle.core_lowering_rules.specs.Trees.{Expr, Unknown, This, ClassOf, Read, Unary, Cast, Binary, Logical}
+use Rattle.core_lowering_rules.specs.Trees.{Conditional}
+use Rattle.core_lowering_rules.specs.Trees.{Assign, Combine, Count, Call, CallOn, New, NewBody, NewArray, NewItems}
+use Rattle.core_lowering_rules.specs.Trees.{Paren}
 use Rattle.core_lowering_rules.specs.Trees.{ThisOf, Refer, ToExpr, ToType}
 use Rattle.core_lowering_rules.specs.Trees.{Access, Named, Selected, Element, NoAccess, Exprs, no_expr, expr_then, Init}
 use Rattle.core_lowering_rules.specs.Trees.{Value, Items, Inits, no_init, init_then, Variable, Start, Declares, Runs}

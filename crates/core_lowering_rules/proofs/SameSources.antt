@@ -32,7 +32,8 @@ use Rattle.core_lowering_rules.specs.Assignments.{of_name, assigned}
 use Rattle.core_lowering_rules.specs.Expressions.{init_kind, init_code}
 use Rattle.core_lowering_rules.specs.Scopes.{of_type, after_all}
 use Rattle.core_lowering_rules.specs.Methods.{Body, Default, Spelled, Unspelled, Source, this_kinds, entered}
-use Rattle.core_lowering_rules.specs.Methods.{outside_methods, parameters_declared, field_begun, member_begun, fields_begun, body_of}
+use Rattle.core_lowering_rules.specs.Methods.{outside_methods, parameters_declared, field_begun, member_begun}
+use Rattle.core_lowering_rules.specs.Methods.{fields_begun, body_of}
 use Rattle.core_lowering_rules.specs.Methods.{block_code, none_analysed, is_large, is_past, is_past_limit, end_of}
 use Rattle.core_lowering_rules.specs.Methods.{is_apart}
 use Rattle.core_lowering_rules.specs.Methods.{locked, ended, spelled_code, code_in, method_code, kinds_in}

@@ -18,7 +18,8 @@ use Rattle.core_lowering_rules.specs.Trees.{Switch, Locked, Try, Finally, Resour
 use Rattle.core_lowering_rules.specs.Trees.{no_group, group_then, Catches, no_catch, catch_then, Expr}
 use Rattle.core_lowering_rules.specs.Locks.{is_stored_in, lock_kept, lock_noted}
 use Rattle.core_lowering_rules.specs.Context.{Context, Guard, Target, type_kind}
-use Rattle.core_lowering_rules.specs.Scopes.{of_type, of_catch, all_declared, started, back_in, back_from, in_loop, in_switch}
+use Rattle.core_lowering_rules.specs.Scopes.{of_type, of_catch, all_declared, started, back_in, back_from, in_loop}
+use Rattle.core_lowering_rules.specs.Scopes.{in_switch}
 use Rattle.core_lowering_rules.specs.Scopes.{in_labelled, with_label, is_loop, break_to, continue_to, jumped, in_guard}
 use Rattle.core_lowering_rules.specs.Scopes.{out_of_guard, returned_variable, with_variable, after_return, after_last}
 use Rattle.core_lowering_rules.specs.Scopes.{is_closed_by}

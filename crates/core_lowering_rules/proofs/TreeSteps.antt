@@ -331,7 +331,8 @@ module _ (f : TreeFact) (s : TreeSteps f) where
       (moved f.OfExpr (search (rules, the_lemmas)) (search (rules, the_lemmas)) (search (rules, the_lemmas))
       (s.of_cast y))
 
-  instance-has : (x : PlainInstance) (y : InstanceLayer f) → plain_instance f y ≡ x → HasInstance f (roll-InstanceTree x)
+  instance-has : (x : PlainInstance) (y : InstanceLayer f) → plain_instance f y ≡ x →
+      HasInstance f (roll-InstanceTree x)
   instance-has x y is =
       subst (λ z. HasInstance f (roll-InstanceTree z)) is
       (moved f.OfExpr (search (rules, the_lemmas)) (search (rules, the_lemmas)) (search (rules, the_lemmas))
@@ -349,7 +350,8 @@ module _ (f : TreeFact) (s : TreeSteps f) where
       (moved f.OfExpr (search (rules, the_lemmas)) (search (rules, the_lemmas)) (search (rules, the_lemmas))
       (s.of_new y))
 
-  reference-has : (x : PlainReference) (y : ReferenceLayer f) → plain_reference f y ≡ x → HasReference f (roll-ReferenceTree x)
+  reference-has : (x : PlainReference) (y : ReferenceLayer f) → plain_reference f y ≡ x →
+      HasReference f (roll-ReferenceTree x)
   reference-has x y is =
       subst (λ z. HasReference f (roll-ReferenceTree z)) is
       (moved f.OfExpr (search (rules, the_lemmas)) (search (rules, the_lemmas)) (search (rules, the_lemmas))

@@ -78,8 +78,8 @@ abbrev pub parameters_of : Option MethodInfo → List Kind
 parameters_of None = []
 parameters_of (Some info) = info.parameters
 
--- what arguments of this number are converted to where these are the kinds of the parameters: where the two are others in
--- number, those that the last parameter takes to nothing (JLS 15.12.4.2)
+-- what arguments of this number are converted to where these are the kinds of the parameters: where the two are others
+-- in number, those that the last parameter takes to nothing (JLS 15.12.4.2)
 abbrev pub given_kinds : ℕ → List Kind → List Kind
 given_kinds n kinds = if n == length kinds then kinds else take (length kinds - 1) kinds
 
@@ -93,8 +93,8 @@ abbrev pub with_object : (has_object : Bool) → ℕ → ℕ
 with_object true n = suc n
 with_object false n = n
 
--- where the arguments and the parameters are others in number, the last parameter takes one value, which is made of those
--- that are left
+-- where the arguments and the parameters are others in number, the last parameter takes one value, which is made of
+-- those that are left
 abbrev pub gathered : Context → (arguments parameters : ℕ) → Code
 gathered context n parameters = if n == parameters then [] else op context (Outside (n - (parameters - 1)))
 
@@ -111,7 +111,8 @@ call_at context place m has_object n =
 -- f(..)
 abbrev pub called : Context → Place → ℕ → Passing → Callee → Code
 called context place n arguments Missing = arguments [] ++ op context (Outside n)
-called context place n arguments (OfClass m) = arguments (parameter_kinds context m n) ++ call_at context place m false n
+called context place n arguments (OfClass m) =
+    arguments (parameter_kinds context m n) ++ call_at context place m false n
 called context place n arguments (OfObject m) =
     push_this context ++ arguments (parameter_kinds context m n) ++ call_at context place m true n
 

@@ -1,5 +1,5 @@
--- A contract of a public call rests on this: which expressions mean a lock field of the method's own class, or a variable
--- that holds one lock throughout a block.
+-- A contract of a public call rests on this: which expressions mean a lock field of the method's own class, or a
+-- variable that holds one lock throughout a block.
 use Rattle.std.specs.Prelude.{Bool, false, not, ◌&&◌, ◌||◌, Option, Some, None, if◌then◌else◌}
 use Rattle.racer_base.specs.declared.ids.FieldId.{FieldId}
 use Rattle.java_tree.specs.declared.words.Ident.{Ident}

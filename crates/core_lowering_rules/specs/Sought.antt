@@ -1,8 +1,9 @@
--- A contract of a public call rests on this: whether a call of `unlock` without arguments, or a store to a variable, stands
--- in statements, at any depth.
+-- A contract of a public call rests on this: whether a call of `unlock` without arguments, or a store to a variable,
+-- stands in statements, at any depth.
 use Rattle.std.specs.Prelude.{ℕ, Bool, true, false, ◌&&◌, ◌||◌, List, [], ◌∷◌, Option, None, Some, bytes_eq, codes}
 use Rattle.java_tree.specs.declared.words.Ident.{Ident}
-use Rattle.core_lowering_rules.specs.Trees.{Expr, Prim, Unknown, Null, This, ClassOf, Read, Unary, Cast, Binary, Logical}
+use Rattle.core_lowering_rules.specs.Trees.{Expr, Prim, Unknown, Null, This, ClassOf, Read, Unary, Cast, Binary}
+use Rattle.core_lowering_rules.specs.Trees.{Logical}
 use Rattle.core_lowering_rules.specs.Trees.{Conditional, Assign, Combine, Count, Call, CallOn, New, NewBody, NewArray}
 use Rattle.core_lowering_rules.specs.Trees.{NewItems, ThisOf, Refer, ToExpr, ToType}
 use Rattle.core_lowering_rules.specs.Trees.{Paren, Access, Named, Selected, Element, NoAccess, Exprs, no_expr}
@@ -124,7 +125,8 @@ abbrev mutual
   does_stmt_stand sought (While c s) = does_stand sought c.on || does_stmt_stand sought s
   does_stmt_stand sought (Do s c) = does_stmt_stand sought s || does_stand sought c.on
   does_stmt_stand sought (For i c updates s) =
-      does_start_stand sought i || does_condition_stand sought c || do_exprs_stand sought updates || does_stmt_stand sought s
+      does_start_stand sought i || does_condition_stand sought c || do_exprs_stand sought updates
+      || does_stmt_stand sought s
   does_stmt_stand sought (ForEach t x e s) = does_stand sought e || does_stmt_stand sought s
   does_stmt_stand sought (Sync place e ss) = does_stand sought e || do_any_stand sought ss
   does_stmt_stand sought (Return e) = does_some_stand sought e
@@ -138,9 +140,11 @@ abbrev mutual
   does_stmt_stand sought (Switch e gs) = does_stand sought e || do_groups_stand sought gs
   does_stmt_stand sought (Locked place e ss catches) =
       is_unlocking sought || (does_stand sought e || do_any_stand sought ss || do_clauses_stand sought catches)
-  does_stmt_stand sought (Try rs ss catches) = do_resources_stand sought rs || do_any_stand sought ss || do_clauses_stand sought catches
+  does_stmt_stand sought (Try rs ss catches) =
+      do_resources_stand sought rs || do_any_stand sought ss || do_clauses_stand sought catches
   does_stmt_stand sought (Finally rs ss catches finally) =
-      do_resources_stand sought rs || do_any_stand sought ss || do_clauses_stand sought catches || do_any_stand sought finally
+      do_resources_stand sought rs || do_any_stand sought ss || do_clauses_stand sought catches
+      || do_any_stand sought finally
 
   pub do_any_stand : Sought → Stmts → Bool
   do_any_stand sought no_stmt = false
@@ -148,7 +152,8 @@ abbrev mutual
 
   pub do_groups_stand : Sought → Groups → Bool
   do_groups_stand sought no_group = false
-  do_groups_stand sought (group_then labels ss gs) = do_labels_stand sought labels || do_any_stand sought ss || do_groups_stand sought gs
+  do_groups_stand sought (group_then labels ss gs) =
+      do_labels_stand sought labels || do_any_stand sought ss || do_groups_stand sought gs
 
   pub do_clauses_stand : Sought → Catches → Bool
   do_clauses_stand sought no_catch = false

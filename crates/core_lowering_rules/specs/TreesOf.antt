@@ -46,7 +46,8 @@ use Rattle.java_tree.specs.declared.statements.Statement.TheFolds.{fold-Statemen
 use Rattle.java_tree.specs.declared.statements.Statement.TheFolds.{fold-GroupTree}
 use Rattle.java_tree.specs.Trees.{Ty, Typed, Named as NamedType, no_part}
 use Rattle.java_tree.specs.View.{ty_of}
-use Rattle.core_lowering_rules.specs.Trees.{Expr, Prim, Unknown, Null, This, ClassOf, Read, Unary, Cast, Logical, Binary}
+use Rattle.core_lowering_rules.specs.Trees.{Expr, Prim, Unknown, Null, This, ClassOf, Read, Unary, Cast, Logical}
+use Rattle.core_lowering_rules.specs.Trees.{Binary}
 use Rattle.core_lowering_rules.specs.Trees.{Conditional, Assign, Combine, Count, Paren, Call, CallOn, New, NewArray}
 use Rattle.core_lowering_rules.specs.Trees.{NewItems, NewBody, ThisOf, Refer, Referee, ToExpr, ToType}
 use Rattle.core_lowering_rules.specs.Trees.{Access, Named, Selected, Element, NoAccess, Init, Value, Items, Inits}

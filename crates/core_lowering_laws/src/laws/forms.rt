@@ -25,7 +25,8 @@ pub fn references()
         ≡ Some (outside 0 ∷ set 3 ∷ pop ∷ []) ∷ Some (outside 0 ∷ set 3 ∷ pop ∷ []) ∷ [] }
 {}
 
-/// `this` behind the name of the method's own class is `this` (JLS 15.8.4); a cast to several types is one to the first.
+/// `this` behind the name of the method's own class is `this` (JLS 15.8.4); a cast to several types is one to the
+/// first.
 pub fn names_and_casts()
     ensures own { lowered (codes "a = A . this ;") ≡ Some (push_this ∷ set 2 ∷ pop ∷ []) }
     ensures other { map lowered (codes "a = B . this ;" ∷ codes "a = p . A . this ;" ∷ [])
@@ -57,5 +58,6 @@ pub fn other_types()
     ensures seen { lowered_hiding (codes "B") (codes "{ A b = o ; }")
         ≡ Some (push_o ∷ outside 1 ∷ set 4 ∷ pop ∷ null ∷ set 4 ∷ pop ∷ []) }
     ensures arrays { lowered (codes "{ A b [ ] = o , c = o ; }")
-        ≡ Some (push_o ∷ set 4 ∷ pop ∷ push_o ∷ outside 1 ∷ set 5 ∷ pop ∷ null ∷ set 4 ∷ pop ∷ null ∷ set 5 ∷ pop ∷ []) }
+        ≡ Some (push_o ∷ set 4 ∷ pop ∷ push_o ∷ outside 1 ∷ set 5 ∷ pop ∷ null ∷ set 4 ∷ pop ∷ null ∷ set 5 ∷ pop
+        ∷ []) }
 {}

@@ -11,13 +11,13 @@ use Rattle.core_lowering_locks.proofs.sought_values.+sought_values.Goals as goal
 
 pub does_left_stand-returns-in-Binary : goal.does_left_stand-returns-in-Binary
 does_left_stand-returns-in-Binary t c =
-    binary-arm (in_left (sought_seen c.args.sought)) false (binary_is_no_access (sought_seen c.args.sought)) c.args.e.now
-    c.in-Binary.field-0 c.in-Binary.field-1 c.in-Binary.field-2 c.in-Binary.is
+    binary-arm (in_left (sought_seen c.args.sought)) false (binary_is_no_access (sought_seen c.args.sought))
+    c.args.e.now c.in-Binary.field-0 c.in-Binary.field-1 c.in-Binary.field-2 c.in-Binary.is
 
 pub does_left_stand-returns-in-Prefix : goal.does_left_stand-returns-in-Prefix
 does_left_stand-returns-in-Prefix t c =
-    prefix-arm (in_left (sought_seen c.args.sought)) false (prefix_is_no_access (sought_seen c.args.sought)) c.args.e.now
-    c.in-Prefix.field-0 c.in-Prefix.field-1 c.in-Prefix.is
+    prefix-arm (in_left (sought_seen c.args.sought)) false (prefix_is_no_access (sought_seen c.args.sought))
+    c.args.e.now c.in-Prefix.field-0 c.in-Prefix.field-1 c.in-Prefix.is
 
 pub does_left_stand-returns-in-Call : goal.does_left_stand-returns-in-Call
 does_left_stand-returns-in-Call t c =
@@ -45,6 +45,7 @@ does_stand-returns-in-Binary t c =
     let a : c.deref-in-Binary.result.now ≡ c.in-Binary.a.value = search rules in
     let b : c.deref-in-Binary-2.result.now ≡ c.in-Binary.b.value = search rules in
     c.does_either_stand.ensures
-    ∙ ap (λ (e : Expression). does_stand sought (expr_of e) || does_stand sought (expr_of c.deref-in-Binary-2.result.now)) a
+    ∙ ap (λ (e : Expression). does_stand sought (expr_of e)
+    || does_stand sought (expr_of c.deref-in-Binary-2.result.now)) a
     ∙ ap (λ (e : Expression). does_stand sought (expr_of c.in-Binary.a.value) || does_stand sought (expr_of e)) b
     ∙ binary_in sought c.args.e.now c.in-Binary.a c.in-Binary.field-1 c.in-Binary.b c.in-Binary.is

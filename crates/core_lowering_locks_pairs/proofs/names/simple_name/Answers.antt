@@ -14,9 +14,10 @@ returns-in-Prefix c =
     prefix-arm simple_name None prefix_is_no_name c.args.e.now c.in-Prefix.field-0 c.in-Prefix.field-1 c.in-Prefix.is
 
 pub returns-in-Call : goal.returns-in-Call
-returns-in-Call c = call-arm simple_name None (λ y es. refl) (λ e y es. refl) c.args.e.now c.in-Call.field-0 c.in-Call.is
+returns-in-Call c =
+    call-arm simple_name None (λ y es. refl) (λ e y es. refl) c.args.e.now c.in-Call.field-0 c.in-Call.is
 
 pub returns-in-New : goal.returns-in-New
 returns-in-New c =
-    new-arm simple_name None (λ place t es. refl) (λ place t es. refl) (λ place es. refl) (λ place is. refl) c.args.e.now
-    c.in-New.field-0 c.in-New.is
+    new-arm simple_name None (λ place t es. refl) (λ place t es. refl) (λ place es. refl) (λ place is. refl)
+    c.args.e.now c.in-New.field-0 c.in-New.is

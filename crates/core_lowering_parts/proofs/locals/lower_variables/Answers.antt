@@ -43,7 +43,8 @@ loop-variable-preserved c =
 
 pub returns-clause-context : goal.returns-clause-context
 returns-clause-context c =
-    sym (at_drop_all (λ (vs : List VariableTree). all_declared c.loop-variable.context (ty_of c.args.t.now) (map variable_of vs))
+    sym (at_drop_all (λ (vs : List VariableTree). all_declared c.loop-variable.context (ty_of c.args.t.now)
+    (map variable_of vs))
     c.args.variables.now c.loop-variable.variable-index c.loop-variable-test.false)
     ∙ c.loop-variable.invariant.context
 
