@@ -1,16 +1,18 @@
 -- What holds of each token of a file holds of each token of its types, its members and its fields.
-use Rattle.std.proofs.Common.{Bool, true, false, cond, ◌&&◌, ◌||◌, not, List, [], ◌∷◌, map, filter, length}
-use Rattle.std.proofs.Common.{Option, Some, None, codes, subst, ◌-◌}
+use Rattle.std.proofs.Common.{◌≡◌, ℕ, Bool, true, false, cond, not, List, [], ◌∷◌, map, filter, length}
+use Rattle.std.proofs.Common.{codes, refl, subst, ◌-◌}
 use Rattle.java_lexer.specs.declared.token.Token.{Token}
 use Rattle.java_tree.specs.FormedModifiers.{Each}
-use Rattle.java_parser_grammar.specs.Tokens.{begins_sign, begins_word, begins}
+use Rattle.java_tree.specs.Trees.{Modifier}
+use Rattle.java_parser_grammar.specs.Tokens.{begins_sign}
 use Rattle.java_parser_grammar.specs.Cuts.{joined}
-use Rattle.java_parser_grammar.specs.Pieces.{Item, items_of, Piece, pieces_of, is_annotation, inside}
-use Rattle.java_parser_grammar.specs.Declarations.{is_type_modifier, is_type, types_among, AreDeclarations}
-use Rattle.java_parser_grammar.specs.Members.{cut_members, is_lone, members_of, behind_words}
+use Rattle.java_parser_grammar.specs.Pieces.{Item, items_of, inside}
+use Rattle.java_parser_grammar.specs.ClassHeads.{IsHead}
+use Rattle.java_parser_grammar.specs.Declarations.{is_type, types_among, AreDeclarations}
+use Rattle.java_parser_grammar.specs.Members.{cut_members, is_lone, members_of}
 use Rattle.java_parser_grammar.specs.FieldDivisions.{IsDivided, between_commas, before_first}
-use Rattle.java_parser_grammar.specs.Units.{name_in, read_name, body_among}
-use Rattle.java_parser_grammar.proofs.Joined.{joined_items, joined_pieces}
+use Rattle.java_parser_grammar.specs.Units.{body_among}
+use Rattle.java_parser_grammar.proofs.Joined.{joined_items}
 use Rattle.java_parser_grammar.proofs.OneCut.{joined_cut}
 use Rattle.core_lowering_conditions.proofs.Parts.{each_front, each_behind, each_append, each_take, each_filter}
 use Rattle.core_lowering_conditions.proofs.Parts.{each_cut}
@@ -22,32 +24,10 @@ module _ (P : Token → Type 0) where
 
   -- ---- the name of a class
 
-  behind_each : (is_word : Token → Bool) (ps : List Piece) → Each (Each P) ps → Each (Each P) (behind_words is_word ps)
-  behind_each is_word [] h = tt
-  behind_each is_word (p ∷ ps) h =
-      elim (is_annotation p || begins is_word p) as (λ b. Each (Each P) (cond b (behind_words is_word ps) (p ∷ ps))) [
-        | true ↦ behind_each is_word ps h.1
-        | false ↦ h
-      ]
-
-  abbrev pub OfToken : Option Token → Type 0
-  OfToken None = Unit {0}
-  OfToken (Some t) = P t
-
-  name_among : (ps : List Piece) → Each (Each P) ps → OfToken (name_in ps)
-  name_among [] h = tt
-  name_among (word ∷ []) h = tt
-  name_among (word ∷ [] ∷ ps) h = tt
-  name_among (word ∷ (t ∷ ts) ∷ []) h = tt
-  name_among (word ∷ (t ∷ ts) ∷ next ∷ ps) h =
-      let read = begins_word (codes "class") word &&
-      (begins_sign (codes "{") next || begins_word (codes "implements") next) in
-      elim read as (λ b. OfToken (cond b (Some t) None)) [ true ↦ h.1.0.0 | false ↦ tt ]
-
-  pub name_each : (type : List Token) → Each P type → OfToken (read_name type)
-  name_each type h =
-      name_among (behind_words is_type_modifier (pieces_of type))
-      (behind_each is_type_modifier (pieces_of type) (each_cut P (pieces_of type) type (joined_pieces type) h))
+  pub name_each : (type : List Token) (ms : List Modifier) (name : Token) → Each P type → IsHead type ms name → P name
+  name_each type ms name h head =
+      let behind = head.word ∷ name ∷ head.next ∷ head.rest in
+      (each_behind P head.front behind (subst (Each P) head.parts h)).1.0
 
   -- ---- members
 

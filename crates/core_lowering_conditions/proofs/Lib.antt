@@ -4,7 +4,4 @@ mod TokenPlaces
 mod MemberPlaces
 mod UnitPlaces
 mod NamedTokens
-mod ItemsAgain
-mod WholePieces
-mod ClassNames
 mod UnitNames

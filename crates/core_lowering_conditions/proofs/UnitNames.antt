@@ -1,10 +1,11 @@
 -- The names of classes and fields are identifiers.
-use Rattle.std.proofs.Common.{◌≡◌, ℕ, suc, Bool, true, false, cond, List, [], ◌∷◌, ◌++◌, map, filter, Some}
+use Rattle.std.proofs.Common.{◌≡◌, ℕ, suc, Bool, true, List, [], ◌∷◌, ◌++◌, map}
 use Rattle.std.proofs.Common.{refl, ap, ◌∙◌, subst, inl, inr}
 use Rattle.std.specs.List.{AllZip, flat_map, list_all}
 use Rattle.std.proofs.lemmas.List.Folds.{list_all-append}
 use Rattle.std.proofs.lemmas.Bool.{and_from}
 use Rattle.racer_base.specs.declared.ids.ClassId.{ClassId}
+use Rattle.racer_base.specs.declared.ids.Place.{Place}
 use Rattle.java_lexer.specs.declared.token.Token.{Token}
 use Rattle.java_tree.specs.declared.methods.FieldTree.{FieldTree}
 use Rattle.java_tree.specs.declared.methods.FieldVariable.{FieldVariable}
@@ -14,12 +15,11 @@ use Rattle.java_tree.specs.declared.unit.Member.{Member}
 use Rattle.java_tree.specs.declared.unit.Member.TheVariants as member
 use Rattle.java_tree.specs.declared.unit.Unit as unit
 use Rattle.java_parser_grammar.specs.Tokens.{plain, is_name}
-use Rattle.java_parser_grammar.specs.Cuts.{joined}
-use Rattle.java_parser_grammar.specs.Pieces.{Item, items_of}
-use Rattle.java_parser_grammar.specs.Declarations.{is_type, types_among}
+use Rattle.java_parser_grammar.specs.Pieces.{items_of}
+use Rattle.java_parser_grammar.specs.Declarations.{types_among}
 use Rattle.java_parser_grammar.specs.Members.{Form, SkippedForm, MethodForm, FieldForm, form_of, members_of}
 use Rattle.java_parser_grammar.specs.FieldDivisions.{IsVariable, AreVariables, AreFields, between_commas}
-use Rattle.java_parser_grammar.specs.Units.{HasForm, IsMember, IsClass, read_name, body_among, is_read}
+use Rattle.java_parser_grammar.specs.Units.{HasForm, IsMember, IsClass, AreTypes, body_among}
 use Rattle.java_parser_grammar.proofs.Ensuring.{name_is}
 use Rattle.java_resolver.specs.declared.infos.ClassInfo.{ClassInfo}
 use Rattle.java_resolver.specs.declared.infos.FieldInfo.{FieldInfo}
@@ -28,12 +28,11 @@ use Rattle.java_resolver.specs.Declarations.{member_fields, class_fields, fields
 use Rattle.core_code.specs.Names.{is_identifier}
 use Rattle.core_lowering_rules.specs.Conditions.{are_named}
 use Rattle.core_lowering_conditions.specs.FromTokens.{IsFromTokens, AreFromTokens}
-use Rattle.core_lowering_conditions.proofs.Parts.{each_front, each_behind, each_filter, each_append}
-use Rattle.core_lowering_conditions.proofs.EachToken.{items_each, OfToken, name_each, body_each, members_each}
+use Rattle.core_lowering_conditions.proofs.Parts.{each_front, each_behind, each_append}
+use Rattle.core_lowering_conditions.proofs.EachToken.{items_each, name_each, body_each}
+use Rattle.core_lowering_conditions.proofs.EachToken.{members_each}
 use Rattle.core_lowering_conditions.proofs.EachToken.{types_each}
 use Rattle.core_lowering_conditions.proofs.EachToken.{divided_each, commas_each}
-use Rattle.core_lowering_conditions.proofs.ItemsAgain.{AreItems, parts_again}
-use Rattle.core_lowering_conditions.proofs.ClassNames.{name_is_one}
 use Rattle.core_lowering_conditions.proofs.NamedTokens.{IsNamed, tokens_named}
 
 -- a name is an identifier
@@ -122,47 +121,33 @@ pub record IsNamedClass (c : ClassTree) : Type 0 where
   pub named : is_identifier c.name ≡ true
   pub members : Each NamesFields c.members
 
-abbrev Reads : List Token → Type 0
-Reads type = (t : Token) → read_name type ≡ Some t → is_name t ≡ true
-
-class_named : (type : List Token) (c : ClassTree) → Each IsNamed type → Reads type → IsClass type c → IsNamedClass c
-class_named type c h reads is =
-    let name : IsNamed is.name = subst (OfToken IsNamed) is.is (name_each IsNamed type h) in
+class_named : (type : List Token) (c : ClassTree) → Each IsNamed type → IsClass type c → IsNamedClass c
+class_named type c h is =
+    let name : IsNamed is.name = name_each IsNamed type is.modifiers is.name h is.head in
     let body = body_among (items_of type) in
     record {
-      named = ap is_identifier is.named ∙ identifier_of is.name name (reads is.name is.is);
+      named = ap is_identifier is.named ∙ identifier_of is.name name is.head.named;
       members = members_named c.name (members_of body) c.members
           (members_each IsNamed body (body_each IsNamed (items_of type) (items_each IsNamed type h))) is.members;
     }
 
-classes_named : (types : List (List Token)) (cs : List ClassTree) → Each (Each IsNamed) types → Each Reads types
-    → AllZip IsClass types cs → Each IsNamedClass cs
-classes_named [] [] h reads all = tt
-classes_named [] (c ∷ cs) h reads all = absurd all
-classes_named (t ∷ ts) [] h reads all = absurd all
-classes_named (t ∷ ts) (c ∷ cs) h reads all =
-    (class_named t c h.0 reads.0 all.0, classes_named ts cs h.1 reads.1 all.1)
+types_named : (types : List (List Token)) (cs : List ClassTree) (ps : List Place) → Each (Each IsNamed) types
+    → AreTypes types cs ps → Each IsNamedClass cs
+types_named [] [] [] h all = tt
+types_named [] [] (p ∷ ps) h all = absurd all
+types_named [] (c ∷ cs) ps h all = absurd all
+types_named (t ∷ ts) [] ps h (inl k) = absurd k
+types_named (t ∷ ts) (c ∷ cs) ps h (inl k) = (class_named t c h.0 k.0, types_named ts cs ps h.1 k.1)
+types_named (t ∷ ts) cs [] h (inr k) = absurd k
+types_named (t ∷ ts) cs (p ∷ ps) h (inr k) = types_named ts cs ps h.1 k.2
 
 -- ---- units
-
-types_by : (b : Bool) (d : List Item) (ds : List (List Item)) → is_type d ≡ b → AreItems d
-    → Each Reads (map joined (filter is_type ds))
-    → Each Reads (map joined (cond b (d ∷ filter is_type ds) (filter is_type ds)))
-types_by true d ds e h others = (λ t r. name_is_one d t h e r, others)
-types_by false d ds e h others = others
-
-types_read : (ds : List (List Item)) → Each AreItems ds → Each Reads (map joined (filter is_type ds))
-types_read [] h = tt
-types_read (d ∷ ds) h = types_by (is_type d) d ds refl h.0 (types_read ds h.1)
 
 unit_named : (n : ℕ) (u : unit.Unit) → IsFromTokens n u → Each IsNamedClass u.classes
 unit_named n u is =
     let named = tokens_named (record { 0 = n }) is.bytes is.lexed is.tokens in
     let types = types_each IsNamed is.lexed.tokens is.unit.all named is.unit.fit in
-    let reads = types_read is.unit.all (parts_again is.unit.all is.lexed.tokens is.unit.fit.together) in
-    classes_named (filter is_read (types_among is.unit.all)) u.classes
-    (each_filter (Each IsNamed) is_read (types_among is.unit.all) types)
-    (each_filter Reads is_read (types_among is.unit.all) reads) is.unit.classes
+    types_named (types_among is.unit.all) u.classes u.skipped types is.unit.types
 
 units_named : (n : ℕ) (us : List unit.Unit) → AreFromTokens n us → Each IsNamedClass (trees_of us)
 units_named n [] are = tt

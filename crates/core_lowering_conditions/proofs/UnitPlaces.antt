@@ -1,6 +1,6 @@
 -- The places that a unit keeps are those of its tokens.
-use Rattle.std.proofs.Common.{◌≡◌, ℕ, suc, ◌+◌, ◌<◌, ◌≤◌, true, false, ◌&&◌, not, List, [], ◌∷◌, ◌++◌}
-use Rattle.std.proofs.Common.{filter, length, refl, sym, ap, subst, ◌∙◌, arith}
+use Rattle.std.proofs.Common.{◌≡◌, ℕ, suc, ◌+◌, ◌<◌, ◌≤◌, true, false, ◌&&◌, inl, inr, List, [], ◌∷◌, ◌++◌}
+use Rattle.std.proofs.Common.{length, refl, sym, ap, subst, ◌∙◌, arith}
 use Rattle.std.specs.Prelude.{nat_lt}
 use Rattle.std.proofs.lemmas.Bool.{lt-ltb, and_from}
 use Rattle.std.specs.List.{AllZip, flat_map, list_all}
@@ -13,11 +13,11 @@ use Rattle.java_tree.specs.declared.unit.Unit as unit
 use Rattle.java_parser_grammar.specs.Pieces.{items_of}
 use Rattle.java_parser_grammar.specs.Declarations.{types_among}
 use Rattle.java_parser_grammar.specs.Members.{members_of}
-use Rattle.java_parser_grammar.specs.Units.{BeginsAt, IsClass, IsMember, body_among, is_read}
+use Rattle.java_parser_grammar.specs.Units.{IsClass, AreTypes, IsMember, body_among}
 use Rattle.core_lowering_rules.specs.Conditions.{member_places, class_places, unit_places, is_in_files, are_in_files}
 use Rattle.core_lowering_conditions.specs.FromTokens.{IsFromTokens, AreFromTokens}
-use Rattle.core_lowering_conditions.proofs.Parts.{each_append, each_filter}
-use Rattle.core_lowering_conditions.proofs.EachToken.{items_each, OfToken, name_each, body_each, members_each}
+use Rattle.core_lowering_conditions.proofs.Parts.{each_append}
+use Rattle.core_lowering_conditions.proofs.EachToken.{items_each, name_each, body_each, members_each}
 use Rattle.core_lowering_conditions.proofs.EachToken.{types_each}
 use Rattle.core_lowering_conditions.proofs.TokenPlaces.{IsIn, StandsIn, tokens_in}
 use Rattle.core_lowering_conditions.proofs.MemberPlaces.{begins_in, member_in}
@@ -38,7 +38,7 @@ module _ (n : ℕ) where
       → Each (IsIn n) (class_places c)
   class_in type c h is =
       let P = StandsIn n in
-      let name : P is.name = subst (OfToken P) is.is (name_each P type h) in
+      let name : P is.name = name_each P type is.modifiers is.name h is.head in
       let body = body_among (items_of type) in (
         subst (IsIn n) (sym is.placed) name,
         members_in c.name (members_of body) c.members
@@ -47,31 +47,36 @@ module _ (n : ℕ) where
 
   -- ---- units
 
-  classes_in : (types : List (List Token)) (cs : List ClassTree) → Each (Each (StandsIn n)) types
-      → AllZip IsClass types cs → Each (IsIn n) (flat_map class_places cs)
-  classes_in [] [] h all = tt
-  classes_in [] (c ∷ cs) h all = absurd all
-  classes_in (t ∷ ts) [] h all = absurd all
-  classes_in (t ∷ ts) (c ∷ cs) h all =
-      each_append (IsIn n) (class_places c) (flat_map class_places cs) (class_in t c h.0 all.0)
-      (classes_in ts cs h.1 all.1)
+  classes_in : (types : List (List Token)) (cs : List ClassTree) (ps : List Place) → Each (Each (StandsIn n)) types
+      → AreTypes types cs ps → Each (IsIn n) (flat_map class_places cs)
+  classes_in [] [] [] h all = tt
+  classes_in [] [] (p ∷ ps) h all = absurd all
+  classes_in [] (c ∷ cs) ps h all = absurd all
+  classes_in (t ∷ ts) [] ps h (inl k) = absurd k
+  classes_in (t ∷ ts) (c ∷ cs) ps h (inl k) =
+      each_append (IsIn n) (class_places c) (flat_map class_places cs) (class_in t c h.0 k.0)
+      (classes_in ts cs ps h.1 k.1)
+  classes_in (t ∷ ts) cs [] h (inr k) = absurd k
+  classes_in (t ∷ ts) cs (p ∷ ps) h (inr k) = classes_in ts cs ps h.1 k.2
 
-  skipped_in : (types : List (List Token)) (ps : List Place) → Each (Each (StandsIn n)) types
-      → AllZip BeginsAt types ps → Each (IsIn n) ps
-  skipped_in [] [] h all = tt
-  skipped_in [] (p ∷ ps) h all = absurd all
-  skipped_in (t ∷ ts) [] h all = absurd all
-  skipped_in (t ∷ ts) (p ∷ ps) h all = (begins_in n t p h.0 all.0, skipped_in ts ps h.1 all.1)
+  skipped_in : (types : List (List Token)) (cs : List ClassTree) (ps : List Place) → Each (Each (StandsIn n)) types
+      → AreTypes types cs ps → Each (IsIn n) ps
+  skipped_in [] [] [] h all = tt
+  skipped_in [] [] (p ∷ ps) h all = absurd all
+  skipped_in [] (c ∷ cs) ps h all = absurd all
+  skipped_in (t ∷ ts) [] ps h (inl k) = absurd k
+  skipped_in (t ∷ ts) (c ∷ cs) ps h (inl k) = skipped_in ts cs ps h.1 k.1
+  skipped_in (t ∷ ts) cs [] h (inr k) = absurd k
+  skipped_in (t ∷ ts) cs (p ∷ ps) h (inr k) = (begins_in n t p h.0 k.1, skipped_in ts cs ps h.1 k.2)
 
   unit_in : (u : unit.Unit) → IsFromTokens n u → Each (IsIn n) (unit_places u)
   unit_in u is =
-      let tokens = tokens_in n is.bytes is.lexed is.tokens in
-      let types = types_each (StandsIn n) is.lexed.tokens is.unit.all tokens is.unit.fit in
+      let types = types_among is.unit.all in
+      let each = types_each (StandsIn n) is.lexed.tokens is.unit.all (tokens_in n is.bytes is.lexed is.tokens)
+      is.unit.fit in
       each_append (IsIn n) u.skipped (flat_map class_places u.classes)
-      (skipped_in (filter (λ type. not (is_read type)) (types_among is.unit.all)) u.skipped
-      (each_filter (Each (StandsIn n)) (λ type. not (is_read type)) (types_among is.unit.all) types) is.unit.skipped)
-      (classes_in (filter is_read (types_among is.unit.all)) u.classes
-      (each_filter (Each (StandsIn n)) is_read (types_among is.unit.all) types) is.unit.classes)
+      (skipped_in types u.classes u.skipped each is.unit.types)
+      (classes_in types u.classes u.skipped each is.unit.types)
 
 -- ---- files
 

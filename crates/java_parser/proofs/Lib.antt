@@ -17,11 +17,10 @@ mod DeclarationSteps
 pub mod HeadSteps
 mod TypeSteps
 mod FileTypes
-pub mod ClassNameSteps
 pub mod AnnotationSteps
+pub mod ClassSteps
 pub mod UnitSteps
 pub mod SameFields
 pub mod SameHeads
 pub mod SameClasses
-mod WholeAnnotations
 mod SomeTokens

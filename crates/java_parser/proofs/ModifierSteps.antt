@@ -22,7 +22,7 @@ use Rattle.java_parser_grammar.specs.FieldDivisions.{FormedFieldModifier, is_fie
 use Rattle.java_parser_grammar.proofs.Appended.{modifiers_append}
 use Rattle.java_parser_types.specs.Tokens.{spelled}
 use Rattle.java_parser.proofs.SameEnds.{plain_ends}
-use Rattle.java_parser_methods.specs.ModifierReading.{word_at}
+use Rattle.java_parser_grammar.specs.ClassHeadReading.{word_at}
 use Rattle.java_parser.specs.FieldModifiers.{field_modifier_at, EndsModifiers, Spells}
 use Rattle.java_parser.specs.FieldModifiers.{SkipsModifiers, NoModifiers, AreModifiers}
 

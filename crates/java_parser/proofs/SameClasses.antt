@@ -1,96 +1,42 @@
 -- A file is one unit at most.
-use Rattle.std.proofs.Common.{◌≡◌, ℕ, not, List, [], ◌∷◌, ◌++◌, Option, Some, None}
-use Rattle.std.proofs.Common.{IsTrue, codes, filter, refl, ap, sym, ◌∙◌, subst, append-nil}
-use Rattle.std.specs.Prelude.{◌||◌}
+use Rattle.std.proofs.Common.{◌≡◌, ℕ, inl, inr, List, [], ◌∷◌, map, refl, ap, sym, ◌∙◌, subst}
 use Rattle.std.specs.List.{AllZip}
 use Rattle.racer_base.specs.declared.ids.Place.{Place}
 use Rattle.java_lexer.specs.declared.token.Token.{Token}
-use Rattle.java_tree.specs.declared.words.Spelled.{Spelled}
 use Rattle.java_tree.specs.declared.methods.AnnotationTree.{AnnotationTree}
 use Rattle.java_tree.specs.declared.methods.MethodTree.{MethodTree}
-use Rattle.java_tree.specs.Trees.{Annotation, Method}
-use Rattle.java_tree.specs.Words.{identifier}
+use Rattle.java_tree.specs.Trees.{Method}
 use Rattle.java_tree.specs.FormedMethods.{FormedMethod}
-use Rattle.java_tree.specs.FormedModifiers.{has_some}
-use Rattle.java_tree.specs.Spelling.{behind_points, names_onto, spelling}
+use Rattle.java_tree.specs.Spelling.{spelling}
 use Rattle.java_tree.specs.MethodPlaces.{method_marks}
-use Rattle.java_tree.specs.View.{method_of}
-use Rattle.java_parser_grammar.specs.Leads.{begins_with}
-use Rattle.java_parser_grammar.specs.Taking.{after_sign}
+use Rattle.java_tree.specs.View.{annotation_of, method_of}
 use Rattle.java_parser_grammar.proofs.FoundJava.{one_java_method}
-use Rattle.java_parser_grammar.proofs.Taken.{sign_is}
 use Rattle.java_tree.specs.declared.unit.ClassTree.{ClassTree}
 use Rattle.java_tree.specs.declared.unit.Member.{Member}
 use Rattle.java_tree.specs.declared.unit.Member.TheVariants as member
 use Rattle.java_tree.specs.declared.unit.Unit as unit
 use Rattle.java_parser_grammar.specs.Tokens.{plain_all}
 use Rattle.java_parser_grammar.specs.Members.{Form, SkippedForm, MethodForm, FieldForm, form_of, members_of}
-use Rattle.java_parser_grammar.specs.Pieces.{Item, items_of, pieces_of}
+use Rattle.java_parser_grammar.specs.Pieces.{Item, items_of}
 use Rattle.java_parser_grammar.specs.Declarations.{types_among}
-use Rattle.java_parser_grammar.specs.Units.{BeginsAt, HasForm, IsMember, annotations_before, IsAnnotation, body_among}
-use Rattle.java_parser_grammar.specs.Units.{is_read}
-use Rattle.java_parser_grammar.specs.Units.{IsClass, IsUnit}
+use Rattle.java_parser_grammar.specs.ClassHeads.{annotations_in}
+use Rattle.java_parser_grammar.specs.Units.{BeginsAt, HasForm, IsMember, body_among}
+use Rattle.java_parser_grammar.specs.Units.{IsClass, AreTypes, IsUnit}
 use Rattle.java_parser_grammar.proofs.Misfits.{one_cut}
+use Rattle.java_parser_grammar.proofs.ReadHeads.{one_head}
 use Rattle.java_parser_methods.specs.PlacedMethods.{IsPlacedMethod}
 use Rattle.java_tree.specs.SameUnits.{SameAnnotation, SameMember, SameClass, SameUnit}
 use Rattle.java_parser.proofs.SameFields.{two_zips, same_field}
 use Rattle.java_parser.proofs.SameHeads.{same_head}
-use Rattle.java_parser.proofs.UnitSteps.{is_other}
 
 -- ---- annotations
 
-record SameNames (xs ys : List (List ℕ)) (r s : List Spelled) : Type 0 where
-  pub names : xs ≡ ys
-  pub rest : r ≡ s
-
-abbrev NoPoint : List Spelled → Type 0
-NoPoint r = after_sign (codes ".") r ≡ None
-
-no_point : (xs : List (List ℕ)) (x : List ℕ) (r s : List Spelled) → NoPoint r → r ≡ behind_points (x ∷ xs) s → ⊥
-no_point xs x r s none e =
-    let some : after_sign (codes ".") r ≡ Some (identifier x ∷ behind_points xs s) = ap (after_sign (codes ".")) e in
-    absurd cc
-
-same_points : (xs ys : List (List ℕ)) (r s : List Spelled) → NoPoint r → NoPoint s
-    → behind_points xs r ≡ behind_points ys s → SameNames xs ys r s
-same_points [] [] r s a b e = record { names = refl; rest = e }
-same_points [] (y ∷ ys) r s a b e = absurd (no_point ys y r s a e)
-same_points (x ∷ xs) [] r s a b e = absurd (no_point xs x s r b (sym e))
-same_points (x ∷ xs) (y ∷ ys) r s a b e =
-    let word : identifier x ≡ identifier y = cc in
-    let first : x ≡ y = ap (λ (s : Spelled). s.text) word in
-    let others : behind_points xs r ≡ behind_points ys s = cc in
-    let found = same_points xs ys r s a b others in
-    record { names = ap (λ l. x ∷ l) found.names ∙ ap (λ z. z ∷ ys) first; rest = found.rest }
-
-same_names : (xs ys : List (List ℕ)) (r s : List Spelled) → IsTrue (has_some xs) → IsTrue (has_some ys) → NoPoint r
-    → NoPoint s → names_onto xs r ≡ names_onto ys s → SameNames xs ys r s
-same_names [] ys r s some other a b e = absurd cc
-same_names (x ∷ xs) [] r s some other a b e = absurd cc
-same_names (x ∷ xs) (y ∷ ys) r s some other a b e =
-    let word : identifier x ≡ identifier y = cc in
-    let first : x ≡ y = ap (λ (s : Spelled). s.text) word in
-    let others : behind_points xs r ≡ behind_points ys s = cc in
-    let found = same_points xs ys r s a b others in
-    record { names = ap (λ l. x ∷ l) found.names ∙ ap (λ z. z ∷ ys) first; rest = found.rest }
-
-ends_names : (args : List Spelled) → IsTrue (not (has_some args) || begins_with (codes "(") args) → NoPoint (args ++ [])
-ends_names [] h = refl
-ends_names (t ∷ ts) h = rw (sign_is (codes "(") t h) refl
-
-abbrev tail : List Spelled → List Spelled
-tail [] = []
-tail (t ∷ ts) = ts
-
-abbrev annotation : List (List ℕ) → List Spelled → Annotation
-annotation names arguments = record { names = names; arguments = arguments }
-
-same_annotation : (ts : List Token) (a b : AnnotationTree) → IsAnnotation ts a → IsAnnotation ts b → SameAnnotation a b
-same_annotation ts a b h k =
-    let same = same_names a.names b.names (a.arguments ++ []) (b.arguments ++ []) h.named k.named
-    (ends_names a.arguments h.bracketed) (ends_names b.arguments k.bracketed) (ap tail (h.spelled ∙ sym k.spelled)) in
-    let arguments : a.arguments ≡ b.arguments = sym (append-nil a.arguments) ∙ same.rest ∙ append-nil b.arguments in
-    ap (λ (l : List (List ℕ)). annotation l a.arguments) same.names ∙ ap (annotation b.names) arguments
+same_annotations : (xs ys : List AnnotationTree) → map annotation_of xs ≡ map annotation_of ys
+    → AllZip SameAnnotation xs ys
+same_annotations [] [] e = tt
+same_annotations [] (y ∷ ys) e = absurd (cc e)
+same_annotations (x ∷ xs) [] e = absurd (cc e)
+same_annotations (x ∷ xs) (y ∷ ys) e = (cc e, same_annotations xs ys (cc e))
 
 -- ---- members
 
@@ -147,43 +93,59 @@ same_tree class m (MethodForm front name ps) tree h other formed spells =
 
 -- ---- classes and files
 
-abbrev token_of : Token → Option Token → Token
-token_of other None = other
-token_of other (Some t) = t
-
 same_class : OnePlaced → (type : List Token) (a b : ClassTree) → IsClass type a → IsClass type b → SameClass a b
 same_class one type a b h k =
-    let token : h.name ≡ k.name = ap (token_of h.name) (sym h.is ∙ k.is) in
+    let head = one_head type h.modifiers k.modifiers h.name k.name h.head k.head in
+    let token = head.1 in
+    let annotations = ap annotations_in head.0 in
     let names : a.name ≡ b.name = h.named ∙ ap (λ (t : Token). t.text) token ∙ sym k.named in
     record {
       name = names;
       place = h.placed ∙ ap (λ (t : Token). t.place) token ∙ sym k.placed;
-      annotations = two_zips IsAnnotation IsAnnotation SameAnnotation same_annotation
-          (annotations_before (pieces_of type)) a.annotations b.annotations h.annotated k.annotated;
+      annotations = same_annotations a.annotations b.annotations (h.annotated ∙ annotations ∙ sym k.annotated);
       members = two_zips (IsMember a.name) (IsMember a.name) SameMember
           (λ m x y p q. same_form one a.name m (form_of m) x y p q) (members_of (body_among (items_of type))) a.members
           b.members h.members (subst (λ (n : List ℕ). AllZip (IsMember n) (members_of (body_among (items_of type)))
           b.members) (sym names) k.members);
     }
 
-same_starts : (types : List (List Token)) (ps qs : List Place) → AllZip BeginsAt types ps → AllZip BeginsAt types qs
-    → ps ≡ qs
-same_starts [] [] [] h k = refl
-same_starts [] (p ∷ ps) qs h k = absurd h
-same_starts [] [] (q ∷ qs) h k = absurd k
-same_starts (t ∷ ts) [] qs h k = absurd h
-same_starts (t ∷ ts) (p ∷ ps) [] h k = absurd k
-same_starts (t ∷ ts) (p ∷ ps) (q ∷ qs) h k =
-    ap (λ l. p ∷ l) (same_starts ts ps qs h.1 k.1) ∙ ap (λ x. x ∷ qs) (same_start t p q h.0 k.0)
+record SameTypes (cs ds : List ClassTree) (ps qs : List Place) : Type 0 where
+  pub classes : AllZip SameClass cs ds
+  pub skipped : ps ≡ qs
+
+same_none : (cs ds : List ClassTree) (ps qs : List Place) → AreTypes [] cs ps → AreTypes [] ds qs
+    → SameTypes cs ds ps qs
+same_none [] [] [] [] h k = record { classes = tt; skipped = refl }
+same_none [] [] [] (q ∷ qs) h k = absurd k
+same_none [] (d ∷ ds) [] qs h k = absurd k
+same_none [] ds (p ∷ ps) qs h k = absurd h
+same_none (c ∷ cs) ds ps qs h k = absurd h
+
+same_types : OnePlaced → (types : List (List Token)) (cs ds : List ClassTree) (ps qs : List Place)
+    → AreTypes types cs ps → AreTypes types ds qs → SameTypes cs ds ps qs
+same_types one [] cs ds ps qs h k = same_none cs ds ps qs h k
+same_types one (t ∷ ts) [] ds ps qs (inl h) k = absurd h
+same_types one (t ∷ ts) (c ∷ cs) [] ps qs (inl h) (inl k) = absurd k
+same_types one (t ∷ ts) (c ∷ cs) (d ∷ ds) ps qs (inl h) (inl k) =
+    let others = same_types one ts cs ds ps qs h.1 k.1 in
+    record { classes = (same_class one t c d h.0 k.0, others.classes); skipped = others.skipped }
+same_types one (t ∷ ts) (c ∷ cs) ds ps [] (inl h) (inr k) = absurd k
+same_types one (t ∷ ts) (c ∷ cs) ds ps (q ∷ qs) (inl h) (inr k) =
+    absurd (k.0 h.0.modifiers h.0.name h.0.head)
+same_types one (t ∷ ts) cs ds [] qs (inr h) k = absurd h
+same_types one (t ∷ ts) cs [] (p ∷ ps) qs (inr h) (inl k) = absurd k
+same_types one (t ∷ ts) cs (d ∷ ds) (p ∷ ps) qs (inr h) (inl k) = absurd (h.0 k.0.modifiers k.0.name k.0.head)
+same_types one (t ∷ ts) cs ds (p ∷ ps) [] (inr h) (inr k) = absurd k
+same_types one (t ∷ ts) cs ds (p ∷ ps) (q ∷ qs) (inr h) (inr k) =
+    let others = same_types one ts cs ds ps qs h.2 k.2 in
+    record {
+      classes = others.classes;
+      skipped = ap (λ l. p ∷ l) others.skipped ∙ ap (λ x. x ∷ qs) (same_start t p q h.1 k.1);
+    }
 
 pub same_unit : OnePlaced → (ts : List Token) (u v : unit.Unit) → IsUnit ts u → IsUnit ts v → SameUnit u v
 same_unit one ts u v h k =
     let all : k.all ≡ h.all = one_cut (items_of ts) k.all h.all k.fit h.fit in
-    let types = types_among h.all in
-    record {
-      classes = two_zips IsClass IsClass SameClass (same_class one) (filter is_read types) u.classes v.classes h.classes
-          (subst (λ (ds : List (List Item)). AllZip IsClass (filter is_read (types_among ds)) v.classes) all k.classes);
-      skipped = same_starts (filter is_other types) u.skipped v.skipped h.skipped
-          (subst (λ (ds : List (List Item)). AllZip BeginsAt (filter is_other (types_among ds)) v.skipped) all
-          k.skipped);
-    }
+    let same = same_types one (types_among h.all) u.classes v.classes u.skipped v.skipped h.types
+    (subst (λ (ds : List (List Item)). AreTypes (types_among ds) v.classes v.skipped) all k.types) in
+    record { classes = same.classes; skipped = same.skipped }

@@ -1,8 +1,5 @@
 -- A file is read as its types, or has its first fault.
-use Rattle.std.proofs.Common.{◌≡◌, inl, inr, Bool, true, false, not, List, [], ◌∷◌, Some, None}
-use Rattle.std.proofs.Common.{filter, ap, sym, subst}
-use Rattle.std.specs.Prelude.{is_some}
-use Rattle.std.specs.List.{AllZip}
+use Rattle.std.proofs.Common.{◌≡◌, inl, inr, List, [], ◌∷◌, ◌++◌, append-nil, append_assoc, ap, sym, ◌∙◌, subst}
 use Rattle.racer_base.specs.declared.ids.Place.{Place}
 use Rattle.java_lexer.specs.declared.token.Token.{Token}
 use Rattle.java_tree.specs.declared.unit.ClassTree.{ClassTree}
@@ -10,71 +7,60 @@ use Rattle.java_tree.specs.declared.unit.Unit as unit
 use Rattle.java_tree.specs.declared.unit.ParseFault.{ParseFault}
 use Rattle.java_tree.specs.declared.unit.ParseFault.TheVariants.{Unbalanced, TooDeep, NotAUnit, Memory}
 use Rattle.java_parser_grammar.specs.Pieces.{items_of}
-use Rattle.java_parser_grammar.specs.Units.{BeginsAt, read_name, is_read, IsClass, IsUnit, IsFault}
-use Rattle.java_parser.specs.DeclaredTypes.{AreTypes, IsNoUnit}
+use Rattle.java_parser_grammar.specs.Units.{AreTypes, IsUnit, IsFault}
+use Rattle.java_parser.specs.DeclaredTypes.{AreTypes as AreDeclaredTypes, IsNoUnit}
 use Rattle.java_parser.specs.OpenBrackets.{IsBalanced, IsBracketFault}
-use Rattle.java_parser.proofs.Zips.{Zips, zips_one, zips_done, filter_keeps, filter_drops}
-use Rattle.java_parser.specs.ReadTypes.{AddsType, AreRead}
+use Rattle.java_parser.specs.ReadTypes.{AddsType}
 
 -- ---- types
 
-pub named_is_read : (type : List Token) (name : Token) → read_name type ≡ Some name → is_read type ≡ true
-named_is_read type name e = ap is_some e
-
-pub nameless_is_skipped : (type : List Token) → read_name type ≡ None → is_read type ≡ false
-nameless_is_skipped type e = ap is_some e
-
-abbrev pub is_other : List Token → Bool
-is_other type = not (is_read type)
-
--- the types so far are those of a unit
+-- with what the rest is read as, the unit so far is what all are read as
 pub record ReadSoFar (all : List (List Token)) (u : unit.Unit) (rest : List (List Token)) : Type 0 where
-  pub classes : Zips IsClass (filter is_read all) u.classes (filter is_read rest)
-  pub skipped : Zips BeginsAt (filter is_other all) u.skipped (filter is_other rest)
+  pub goes_on : (classes : List ClassTree) (skipped : List Place) → AreTypes rest classes skipped
+      → AreTypes all (u.classes ++ classes) (u.skipped ++ skipped)
+
+-- with the same classes and places
+same_types : (all : List (List Token)) (cs ds : List ClassTree) (ps qs : List Place) → cs ≡ ds → ps ≡ qs
+    → AreTypes all cs ps → AreTypes all ds qs
+same_types all cs ds ps qs e f h =
+    subst (λ (l : List ClassTree). AreTypes all l qs) e (subst (λ (l : List Place). AreTypes all cs l) f h)
 
 pub read_start : (all : List (List Token)) → ReadSoFar all (record { classes = []; skipped = [] }) all
-read_start all = record { classes = λ others z. z; skipped = λ others z. z }
+read_start all = record { goes_on = λ cs ps h. h }
 
 pub read_done : (all : List (List Token)) (u : unit.Unit) (rest : List (List Token)) → rest ≡ [] → ReadSoFar all u rest
-    → AreRead all u
-read_done all u rest e h = record {
-  classes = zips_done IsClass (filter is_read all) u.classes (filter is_read rest) (ap (filter is_read) e) h.classes;
-  skipped = zips_done BeginsAt (filter is_other all) u.skipped (filter is_other rest) (ap (filter is_other) e)
-      h.skipped;
-}
+    → AreTypes all u.classes u.skipped
+read_done all u rest e h =
+    same_types all (u.classes ++ []) u.classes (u.skipped ++ []) u.skipped (append-nil u.classes) (append-nil u.skipped)
+    (h.goes_on [] [] (subst (λ (l : List (List Token)). AreTypes l [] []) (sym e) tt))
 
 pub read_more : (all : List (List Token)) (a b : unit.Unit) (type : List Token) (rest : List (List Token))
     → ReadSoFar all a (type ∷ rest) → AddsType type a b → ReadSoFar all b rest
 read_more all a b type rest h (inl c) = record {
-  classes = subst (λ (cs : List ClassTree). Zips IsClass (filter is_read all) cs (filter is_read rest)) (sym c.classes)
-      (zips_one IsClass (filter is_read all) a.classes type (filter is_read rest) c.class
-      (subst (Zips IsClass (filter is_read all) a.classes) (filter_keeps is_read type rest c.read) h.classes) c.is);
-  skipped = subst (λ (ps : List Place). Zips BeginsAt (filter is_other all) ps (filter is_other rest)) (sym c.skipped)
-      (subst (Zips BeginsAt (filter is_other all) a.skipped) (filter_drops is_other type rest (ap not c.read))
-      h.skipped);
+  goes_on = λ cs ps k.
+      same_types all (a.classes ++ c.class ∷ cs) (b.classes ++ cs) (a.skipped ++ ps) (b.skipped ++ ps)
+      (sym (append_assoc a.classes (c.class ∷ []) cs) ∙ ap (λ (l : List ClassTree). l ++ cs) (sym c.classes))
+      (ap (λ (l : List Place). l ++ ps) (sym c.skipped))
+      (h.goes_on (c.class ∷ cs) ps (inl (c.is, k)));
 }
 read_more all a b type rest h (inr s) = record {
-  classes = subst (λ (cs : List ClassTree). Zips IsClass (filter is_read all) cs (filter is_read rest)) (sym s.classes)
-      (subst (Zips IsClass (filter is_read all) a.classes) (filter_drops is_read type rest s.read) h.classes);
-  skipped = subst (λ (ps : List Place). Zips BeginsAt (filter is_other all) ps (filter is_other rest)) (sym s.skipped)
-      (zips_one BeginsAt (filter is_other all) a.skipped type (filter is_other rest) s.place
-      (subst (Zips BeginsAt (filter is_other all) a.skipped) (filter_keeps is_other type rest (ap not s.read))
-      h.skipped) s.begins);
+  goes_on = λ cs ps k.
+      same_types all (a.classes ++ cs) (b.classes ++ cs) (a.skipped ++ s.place ∷ ps) (b.skipped ++ ps)
+      (ap (λ (l : List ClassTree). l ++ cs) (sym s.classes))
+      (sym (append_assoc a.skipped (s.place ∷ []) ps) ∙ ap (λ (l : List Place). l ++ ps) (sym s.skipped))
+      (h.goes_on cs (s.place ∷ ps) (inr (s.none, s.begins, k)));
 }
 
 -- ---- files
 
 pub is_unit : (ts : List Token) (types : List (List Token)) (u : unit.Unit) → IsBalanced ts
-    → AreTypes (items_of ts) types → AreRead types u → IsUnit ts u
+    → AreDeclaredTypes (items_of ts) types → AreTypes types u.classes u.skipped → IsUnit ts u
 is_unit ts types u balanced found read = record {
   balanced = balanced.balanced;
   flat = balanced.flat;
   all = found.all;
   fit = found.fit;
-  classes = subst (λ (l : List (List Token)). AllZip IsClass (filter is_read l) u.classes) (sym found.among)
-      read.classes;
-  skipped = subst (λ (l : List (List Token)). AllZip BeginsAt (filter is_other l) u.skipped) (sym found.among)
-      read.skipped;
+  types = subst (λ (l : List (List Token)). AreTypes l u.classes u.skipped) (sym found.among) read;
 }
 
 pub bracket_fault : (ts : List Token) (end : Place) (fault : ParseFault) → IsBracketFault ts fault

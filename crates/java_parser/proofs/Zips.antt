@@ -1,5 +1,5 @@
 -- Two lists side by side, made one element after the other.
-use Rattle.std.proofs.Common.{◌≡◌, Bool, true, false, List, [], ◌∷◌, ◌++◌, filter, refl, sym, subst}
+use Rattle.std.proofs.Common.{◌≡◌, List, [], ◌∷◌, ◌++◌, sym, subst}
 use Rattle.std.proofs.Common.{append-nil, append_assoc}
 use Rattle.std.specs.List.{AllZip}
 
@@ -21,11 +21,3 @@ module _ {A B : Type 0} (P : A → B → Type 0) (all : List A) where
 
   pub zips_done : (made : List B) (rest : List A) → rest ≡ [] → Zips P all made rest → AllZip P all made
   zips_done made rest e h = zips_end made (subst (Zips P all made) e h)
-
-pub filter_keeps : {A : Type 0} (test : A → Bool) (x : A) (xs : List A) → test x ≡ true
-    → filter test (x ∷ xs) ≡ x ∷ filter test xs
-filter_keeps test x xs e = rw e refl
-
-pub filter_drops : {A : Type 0} (test : A → Bool) (x : A) (xs : List A) → test x ≡ false
-    → filter test (x ∷ xs) ≡ filter test xs
-filter_drops test x xs e = rw e refl

@@ -6,7 +6,7 @@ use Rattle.java_tree.specs.Spelling.{modifiers_onto}
 use Rattle.java_tree.specs.Trees.{Modifier}
 use Rattle.java_parser_grammar.specs.Leads.{begins_with}
 use Rattle.java_parser_grammar.specs.Taking.{after_sign}
-use Rattle.java_parser_methods.specs.ModifierReading.{modifier_at}
+use Rattle.java_parser_grammar.specs.ClassHeadReading.{modifier_at}
 use Rattle.java_parser_grammar.specs.FieldDivisions.{FormedFieldModifier, is_field_modifier}
 
 -- a word or an annotation and the tokens behind it, where one stands

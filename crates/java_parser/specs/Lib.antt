@@ -11,6 +11,5 @@ pub mod PieceSizes
 pub mod FormView
 pub mod DeclaredTypes
 pub mod WalkedTypes
-pub mod ClassNames
-pub mod NamesOfAnnotations
+pub mod ClassAnnotations
 pub mod ReadTypes

@@ -9,18 +9,8 @@ ghost use Rattle.java_parser.specs.FirstDeclaration.{seen_of, first_declared, Is
 use super::items::next_item;
 use super::tests_of_tokens::{begins_name, begins_sign, begins_word, worded_among};
 use java_lexer::Token;
+use java_parser_methods::modifiers::TYPE_MODIFIERS;
 use racer_base::Place;
-
-/// The words of a class or an interface (JLS 8.1.1, 9.1.1).
-pub const TYPE_MODIFIERS: [&[u8]; 7] = [
-    b"public",
-    b"protected",
-    b"private",
-    b"static",
-    b"abstract",
-    b"final",
-    b"strictfp",
-];
 
 /// The words behind which the name of a type stands (JLS 8.1, 8.9, 9.1).
 pub const TYPE_WORDS: [&[u8]; 3] = [b"class", b"interface", b"enum"];

@@ -58,7 +58,7 @@ fn is_block(member: &[Token]) -> bool
 }
 
 /// The tokens from the first piece on that is no annotation and none of these words.
-pub fn behind_words<'a>(words: &[&[u8]], tokens: &'a [Token]) -> &'a [Token]
+fn behind_words<'a>(words: &[&[u8]], tokens: &'a [Token]) -> &'a [Token]
     ensures { pieces_of result.now ≡ behind_words (is_keyword_of (map (λ word. word.now) words.now))
         (pieces_of tokens.now) }
 {

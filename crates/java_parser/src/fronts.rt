@@ -1,5 +1,5 @@
 //! What stands in front of tokens, with the tokens behind it.
-ghost use Rattle.std.specs.Prelude.{◌≡◌, ◌≤◌, ◌<◌, ◌^◌, ◌++◌, length, map, IfOk, IfSome};
+ghost use Rattle.std.specs.Prelude.{◌≡◌, ◌≤◌, ◌<◌, ◌^◌, ◌++◌, ◌-◌, length, drop, map, IfOk, IfSome};
 ghost use Rattle.racer_base.specs.declared.limits.TheConstants.{MAX_NESTING};
 ghost use Rattle.java_tree.specs.KeptPlaces.{ty_places};
 ghost use Rattle.java_tree.specs.View.{ty_of, modifier_of};
@@ -21,6 +21,7 @@ pub fn cut<'a>(tokens: &'a [Token], left: &[Token]) -> (&'a [Token], &'a [Token]
     requires { length left.now ≤ length tokens.now }
     ensures parts { tokens.now ≡ result.0.now ++ result.1.now }
     ensures size { length result.1.now ≡ length left.now }
+    ensures rest { result.1.now ≡ drop (length tokens.now - length left.now) tokens.now }
 {
     tokens.split_at(tokens.len() - left.len())
 }

@@ -2,7 +2,6 @@
 ghost use Rattle.std.specs.Prelude.{◌≡◌, Some, None, map, IfOk, IfErr, MatchOption};
 ghost use Rattle.java_parser_grammar.specs.Pieces.{items_of};
 ghost use Rattle.java_parser_grammar.specs.Members.{members_of};
-ghost use Rattle.java_parser_grammar.specs.Units.{read_name};
 ghost use Rattle.java_parser.specs.DeclaredTypes.{AreTypes, IsNoUnit};
 
 use super::bodies::{is_lone, next_member};

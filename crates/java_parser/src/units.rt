@@ -1,11 +1,10 @@
 //! Files (JLS 7.3).
-ghost use Rattle.std.specs.Prelude.{◌≡◌, ◌∷◌, ◌++◌, [], not, map, filter, IsTrue, IfOk, IfErr, OnOk, OnErr};
-ghost use Rattle.std.specs.List.{AllZip};
+ghost use Rattle.std.specs.Prelude.{◌≡◌, ◌∷◌, ◌++◌, [], map, IsTrue, IfOk, IfErr, OnOk, OnErr};
 ghost use Rattle.java_tree.specs.FormedModifiers.{has_some};
-ghost use Rattle.java_parser_grammar.specs.Units.{is_read, IsClass, BeginsAt, IsUnit, IsFault};
-ghost use Rattle.java_parser.specs.ReadTypes.{HaveTokens, AddsType, AreRead};
+ghost use Rattle.java_parser_grammar.specs.Units.{AreTypes, IsUnit, IsFault};
+ghost use Rattle.java_parser.specs.ReadTypes.{HaveTokens, AddsType};
 
-use super::classes::{class, read_name};
+use super::classes::{class, class_head};
 use crate::balance::check_brackets;
 use crate::tests_of_tokens::first_place;
 use crate::types::types;
@@ -26,9 +25,9 @@ fn add_type(alloc: Global, unit: &mut Unit, tokens: &[Token]) -> Result<(), Memo
     requires { IsTrue (has_some tokens.now) }
     ensures { IfOk result (λ _. AddsType tokens.now unit.old unit.new) }
 {
-    match read_name(tokens) {
-        Some(name) => {
-            let next = class(alloc, name, tokens)?;
+    match class_head(alloc, tokens)? {
+        Some((modifiers, name)) => {
+            let next = class(alloc, modifiers, name, tokens)?;
             put_class(&mut unit.classes, next)?;
         }
         None => unit.skipped.push(first_place(tokens))?,
@@ -39,7 +38,7 @@ fn add_type(alloc: Global, unit: &mut Unit, tokens: &[Token]) -> Result<(), Memo
 /// The unit that these types are.
 fn unit(alloc: Global, types: &[&[Token]]) -> Result<Unit, Memory>
     requires { HaveTokens (map (λ t. t.now) types.now) }
-    ensures { IfOk result (λ unit. AreRead (map (λ t. t.now) types.now) unit) }
+    ensures { IfOk result (λ unit. AreTypes (map (λ t. t.now) types.now) unit.classes unit.skipped) }
 {
     let mut unit = Unit {
         classes: Items::new(alloc),

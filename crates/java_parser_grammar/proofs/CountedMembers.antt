@@ -1,7 +1,8 @@
 -- The tree of each method of a file keeps how many tokens its spelling has.
-use Rattle.std.proofs.Common.{ℕ, List, [], ◌∷◌, length, ap, sym, ◌∙◌}
+use Rattle.std.proofs.Common.{ℕ, inl, inr, List, [], ◌∷◌, length, ap, sym, ◌∙◌}
 use Rattle.std.specs.List.{AllZip}
 use Rattle.std.proofs.lemmas.List.{length-map}
+use Rattle.racer_base.specs.declared.ids.Place.{Place}
 use Rattle.java_lexer.specs.declared.token.Token.{Token}
 use Rattle.java_tree.specs.FormedModifiers.{Each}
 use Rattle.java_tree.specs.declared.unit.ClassTree.{ClassTree}
@@ -9,7 +10,7 @@ use Rattle.java_tree.specs.declared.unit.Member.{Member}
 use Rattle.java_tree.specs.declared.unit.Member.TheVariants as member
 use Rattle.java_parser_grammar.specs.Tokens.{plain}
 use Rattle.java_parser_grammar.specs.Members.{Form, SkippedForm, MethodForm, FieldForm, form_of}
-use Rattle.java_parser_grammar.specs.Units.{HasForm, IsMember, IsClass}
+use Rattle.java_parser_grammar.specs.Units.{HasForm, IsMember, AreTypes}
 use Rattle.java_parser_grammar.specs.CountedTokens.{IsCounted}
 
 with_form : (class : List ℕ) (m : List Token) (form : Form) (tree : Member) → HasForm class m form tree
@@ -30,10 +31,13 @@ members_counted class (m ∷ ms) [] all = absurd all
 members_counted class (m ∷ ms) (tree ∷ trees) all =
     (with_form class m (form_of m) tree all.0, members_counted class ms trees all.1)
 
-pub classes_counted : (types : List (List Token)) (classes : List ClassTree) → AllZip IsClass types classes
-    → Each (λ c. Each IsCounted c.members) classes
-classes_counted [] [] all = tt
-classes_counted [] (c ∷ cs) all = absurd all
-classes_counted (t ∷ ts) [] all = absurd all
-classes_counted (t ∷ ts) (c ∷ cs) all =
-    (members_counted c.name _ c.members all.0.members, classes_counted ts cs all.1)
+pub types_counted : (types : List (List Token)) (classes : List ClassTree) (skipped : List Place)
+    → AreTypes types classes skipped → Each (λ c. Each IsCounted c.members) classes
+types_counted [] [] [] all = tt
+types_counted [] [] (p ∷ ps) all = absurd all
+types_counted [] (c ∷ cs) ps all = absurd all
+types_counted (t ∷ ts) [] ps (inl h) = absurd h
+types_counted (t ∷ ts) (c ∷ cs) ps (inl h) =
+    (members_counted c.name _ c.members h.0.members, types_counted ts cs ps h.1)
+types_counted (t ∷ ts) cs [] (inr h) = absurd h
+types_counted (t ∷ ts) cs (p ∷ ps) (inr h) = types_counted ts cs ps h.2

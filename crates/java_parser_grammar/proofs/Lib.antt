@@ -77,3 +77,5 @@ mod SoundTokens
 mod SoundNames
 mod LocalTypes
 mod FoundClasses
+pub mod OneModifier
+pub mod ReadHeads

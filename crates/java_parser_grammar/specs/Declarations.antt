@@ -1,6 +1,6 @@
 -- A contract of a public call rests on this: the declarations of a file (JLS 7.3): at most one package (JLS 7.4), then
 -- imports (JLS 7.5), then types (JLS 7.6), with lone `;` among them; and the first token that does not fit.
-use Rattle.std.specs.Prelude.{◌≡◌, Bool, false, not, ◌&&◌, ◌||◌, List, [], ◌∷◌, ◌++◌, IsTrue, codes}
+use Rattle.std.specs.Prelude.{◌≡◌, ℕ, Bool, false, not, ◌&&◌, ◌||◌, List, [], ◌∷◌, ◌++◌, IsTrue, codes}
 use Rattle.std.specs.Prelude.{filter, map, if◌then◌else◌}
 use Rattle.std.specs.List.{list_all}
 use Rattle.java_lexer.specs.declared.token.Token.{Token}
@@ -11,12 +11,13 @@ use Rattle.java_parser_grammar.specs.Pieces.{Item, cut_pieces}
 -- ---- words
 
 -- the words of a class or an interface (JLS 8.1.1, 9.1.1)
+abbrev pub type_modifiers : List (List ℕ)
+type_modifiers =
+    codes "public" ∷ codes "protected" ∷ codes "private" ∷ codes "static" ∷ codes "abstract" ∷ codes "final"
+    ∷ codes "strictfp" ∷ []
+
 abbrev pub is_type_modifier : Token → Bool
-is_type_modifier t =
-    is_keyword_of
-    (codes "public" ∷ codes "protected" ∷ codes "private" ∷ codes "static" ∷ codes "abstract" ∷ codes "final"
-    ∷ codes "strictfp" ∷ [])
-    t
+is_type_modifier t = is_keyword_of type_modifiers t
 
 -- the words behind which the name of a type stands; also behind `@ interface` (JLS 8.1, 8.9, 9.1, 9.6)
 abbrev pub is_type_word : Token → Bool

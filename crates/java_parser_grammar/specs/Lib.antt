@@ -13,6 +13,8 @@ pub mod Cuts
 pub mod Brackets
 pub mod Pieces
 pub mod Declarations
+pub mod ClassHeads
+pub mod ClassHeadReading
 pub mod DeclarationWalk
 pub mod Members
 pub mod MemberCuts

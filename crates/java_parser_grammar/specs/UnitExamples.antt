@@ -1,14 +1,16 @@
 -- A contract of a public call rests on this: worked readings, tokens as a reader writes them, in a line with one space
 -- between two.
-use Rattle.std.specs.Prelude.{ℕ, ◌+◌, List, [], ◌∷◌, ◌++◌, map, length}
+use Rattle.std.specs.Prelude.{◌≡◌, ℕ, ◌+◌, List, [], ◌∷◌, ◌++◌, map, length}
 use Rattle.std.specs.Prelude.{replicate}
 use Rattle.racer_base.specs.declared.ids.Place.{Place}
 use Rattle.java_lexer.specs.declared.token.Token.{Token}
 use Rattle.java_tree.specs.declared.words.Spelled.{Spelled}
+use Rattle.java_tree.specs.Trees.{Annotation, Modifier}
 use Rattle.java_tree.specs.Words.{sign}
 use Rattle.java_tree.specs.Examples.{space, between_spaces, token_of}
 use Rattle.java_tree.specs.declared.unit.ParseFault.TheVariants.{NotAUnit}
 use Rattle.java_parser_grammar.specs.Pieces.{Item, items_of, inside, pieces_of}
+use Rattle.java_parser_grammar.specs.ClassHeads.{annotations_in, IsHead}
 use Rattle.java_parser_grammar.specs.Units.{IsFault}
 use Rattle.java_parser_grammar.specs.Declarations.{types_among}
 use Rattle.java_parser_grammar.specs.Members.{members_of, Form, SkippedForm, MethodForm, FieldForm, form_of}
@@ -69,6 +71,14 @@ types texts = map shown (types_among (file texts))
 -- the first token that does not fit stands here
 abbrev pub UnfitAt : List ℕ → ℕ → Type 0
 UnfitAt text column = IsFault (line text) (end_of text) (NotAUnit (at column))
+
+-- a line is read as a class with these annotations and this name
+pub record BeginsClass (text : List ℕ) (annotations : List Annotation) (name : List ℕ) : Type 0 where
+  pub modifiers : List Modifier
+  pub token : Token
+  pub head : IsHead (line text) modifiers token
+  pub annotated : annotations_in modifiers ≡ annotations
+  pub named : token.text ≡ name
 
 -- the members of a class with this body
 abbrev pub members : List ℕ → List (List ℕ)

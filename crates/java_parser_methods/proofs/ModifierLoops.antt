@@ -14,10 +14,11 @@ use Rattle.java_parser_types.specs.declared.error.ReadError.TheVariants.{Memory,
 use Rattle.java_parser_grammar.specs.Taking.{after_sign, after_keyword}
 use Rattle.java_parser_grammar.specs.Lookahead.{after_modifier}
 use Rattle.java_parser_grammar.specs.BalancedReading.{annotation_at, variable_modifiers_at}
+use Rattle.java_parser_grammar.specs.ClassHeadReading.{word_at, modifier_at, type_modifiers_at}
 use Rattle.java_parser_grammar.specs.MethodReading.{modifiers_at}
 use Rattle.java_parser_methods.specs.declared.modifiers.ModifierWords.{ModifierWords}
 use Rattle.java_parser_methods.specs.declared.modifiers.ModifierWords.TheVariants as words
-use Rattle.java_parser_methods.specs.ModifierReading.{is_word, word_at, modifier_at, words_behind, listed_at}
+use Rattle.java_parser_methods.specs.ModifierReading.{is_word, words_behind, listed_at}
 use Rattle.java_parser_types.specs.Tokens.{spelled}
 use Rattle.java_parser_types.specs.Finishing.{finished}
 use Rattle.java_parser_types.specs.Endings.{as_they_are}
@@ -75,10 +76,25 @@ module _ (total : Option (List Modifier × List Spelled)) (tokens : List Token) 
       let one : finished as_they_are front (listed_at ws (length (map spelled tokens) - i) rest) ≡ None = rw k refl in
       sym (alone total) ∙ (sym so_far ∙ one)
 
--- ---- of methods
+-- ---- of types
 
 abbrev Same : ModifierWords → (ℕ → List Spelled → Option (List Modifier × List Spelled)) → ℕ → Type 0
 Same ws read m = (us : List Spelled) → listed_at ws m us ≡ read m us
+
+type_one : (m : ℕ) (ts : List Spelled) (o : Option (Option (Modifier × List Spelled))) → Same words.Type
+    type_modifiers_at m → modifier_at (is_word words.Type) ts ≡ o
+    → listed_at words.Type (suc m) ts ≡ type_modifiers_at (suc m) ts
+unfolding listed_at type_modifiers_at
+type_one m ts None more e = rw e refl
+type_one m ts (Some None) more e = rw e refl
+type_one m ts (Some (Some x)) more e = rw (e, more x.1) refl
+
+pub listed_of_type : (m : ℕ) → Same words.Type type_modifiers_at m
+unfolding listed_at type_modifiers_at
+listed_of_type zero ts = refl
+listed_of_type (suc m) ts = type_one m ts (modifier_at (is_word words.Type) ts) (listed_of_type m) refl
+
+-- ---- of methods
 
 method_annotation : (m : ℕ) (ts r : List Spelled) (o : Option (Annotation × List Spelled)) → Same words.Method
     modifiers_at m → after_sign (codes "@") ts ≡ Some r → annotation_at r ≡ o

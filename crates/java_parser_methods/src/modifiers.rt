@@ -1,11 +1,12 @@
-//! Reading modifiers, of methods, fields and variables alike (JLS 8.3.1, 8.4.3, 14.4).
+//! Reading modifiers, of types, methods, fields and variables alike (JLS 8.1.1, 8.3.1, 8.4.3, 14.4).
 ghost use Rattle.std.specs.Prelude.{◌≡◌, ◌<◌, ◌≤◌, Some, None, length, map, option_map, MatchOption, IfOk, IfSome};
 ghost use Rattle.java_lexer.specs.declared.token.TokenKind.TheVariants as kind;
 ghost use Rattle.java_tree.specs.KeptPlaces.{kept, place_onto, modifier_marks, each_marks};
 ghost use Rattle.java_tree.specs.View.{modifier_of};
 ghost use Rattle.java_parser_grammar.specs.BalancedReading.{before_type_at};
+ghost use Rattle.java_parser_grammar.specs.ClassHeadReading.{word_at, modifier_at, type_modifiers_at};
 ghost use Rattle.java_parser_grammar.specs.MethodReading.{modifiers_at};
-ghost use Rattle.java_parser_methods.specs.ModifierReading.{is_word, word_at, modifier_at, words_behind, listed_at};
+ghost use Rattle.java_parser_methods.specs.ModifierReading.{is_word, words_behind, listed_at};
 ghost use Rattle.java_parser_types.specs.LedPlaces.{Leads};
 ghost use Rattle.java_parser_types.specs.Tokens.{spelled};
 ghost use Rattle.java_parser_types.specs.ReadAnswer.{Gives};
@@ -40,9 +41,21 @@ const FIELD_WORDS: [&[u8]; 7] = [
     b"volatile",
 ];
 
+/// The words of a class or an interface (JLS 8.1.1, 9.1.1).
+pub const TYPE_MODIFIERS: [&[u8]; 7] = [
+    b"public",
+    b"protected",
+    b"private",
+    b"static",
+    b"abstract",
+    b"final",
+    b"strictfp",
+];
+
 /// The words that may stand among modifiers, beside annotations.
 #[derive(Clone, Copy)]
 pub enum ModifierWords {
+    Type,
     Method,
     Field,
     /// `final`, before the type of a local variable or a parameter (JLS 8.4.1, 14.4).
@@ -54,6 +67,7 @@ fn is_word(words: ModifierWords, text: &str) -> bool
     ensures { result ≡ is_word words text.now }
 {
     match words {
+        ModifierWords::Type => is_listed(&TYPE_MODIFIERS, text.as_bytes()),
         ModifierWords::Method => is_listed(&METHOD_WORDS, text.as_bytes()),
         ModifierWords::Field => is_listed(&FIELD_WORDS, text.as_bytes()),
         ModifierWords::Variable => text == "final",
@@ -134,6 +148,18 @@ fn listed(
         rest = after;
     }
     Err(ReadError::Unformed)
+}
+
+/// The modifiers of a type (JLS 8.1.1).
+pub fn type_modifiers(
+    alloc: Global,
+    tokens: &[Token],
+) -> Result<(Vec<ModifierTree>, &[Token]), ReadError>
+    ensures gives { Gives (λ x. (map modifier_of x.0.items, map spelled x.1.now)) result
+        (type_modifiers_at (length (map spelled tokens.now)) (map spelled tokens.now)) }
+    ensures shorter { IfOk result (λ x. length x.1.now ≤ length tokens.now) }
+{
+    listed(alloc, ModifierWords::Type, tokens)
 }
 
 /// The modifiers of a method (JLS 8.4.3).

@@ -17,7 +17,6 @@ pub mod TotalHeads
 pub mod TotalFields
 pub mod Filling
 pub mod TotalMembers
-pub mod MadeAnnotations
 pub mod TotalUnits
 pub mod FewTokens
 mod MadeMarks

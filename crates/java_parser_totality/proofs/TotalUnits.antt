@@ -1,28 +1,28 @@
 -- Every list of tokens is a unit or has a fault.
-use Rattle.std.proofs.Common.{◌≡◌, ◌<◌, Bool, true, false, not, cond, ◌⊎◌, inl, inr, List, [], ◌∷◌, Option}
-use Rattle.std.proofs.Common.{Some, None, filter, length, refl, sym, ap, ◌∙◌, subst, arith}
-use Rattle.std.specs.Prelude.{is_some}
+use Rattle.std.proofs.Common.{◌≡◌, ◌<◌, ◌⊎◌, inl, inr, List, [], ◌∷◌, Option, Some, None, map, length, refl, sym, ap}
+use Rattle.std.proofs.Common.{◌∙◌, subst, arith}
 use Rattle.std.specs.List.{AllZip}
 use Rattle.racer_base.specs.declared.ids.Place.{Place}
 use Rattle.java_lexer.specs.declared.token.Token.{Token}
 use Rattle.java_tree.specs.declared.methods.AnnotationTree.{AnnotationTree}
+use Rattle.java_tree.specs.Trees.{Annotation, Modifier}
+use Rattle.java_tree.specs.View.{annotation_of}
 use Rattle.java_tree.specs.declared.unit.Member.{Member}
 use Rattle.java_tree.specs.declared.unit.ClassTree.{ClassTree}
 use Rattle.java_tree.specs.declared.unit.ParseFault.TheVariants.{Unbalanced, TooDeep, NotAUnit}
 use Rattle.java_parser_grammar.specs.Tokens.{first_place}
 use Rattle.java_parser_grammar.specs.Cuts.{joined}
 use Rattle.java_parser_grammar.specs.Brackets.{unbalanced, too_deep}
-use Rattle.java_parser_grammar.specs.Pieces.{Item, items_of, pieces_of}
+use Rattle.java_parser_grammar.specs.Pieces.{Item, items_of}
+use Rattle.java_parser_grammar.specs.ClassHeads.{annotations_in, IsHead, HasNoHead}
 use Rattle.java_parser_grammar.specs.Declarations.{types_among, AreDeclarations, IsMisfit}
 use Rattle.java_parser_grammar.specs.Members.{members_of}
-use Rattle.java_parser_grammar.specs.Units.{BeginsAt, IsMember, read_name, annotations_before, IsAnnotation, body_among}
-use Rattle.java_parser_grammar.specs.Units.{IsClass}
-use Rattle.java_parser_grammar.specs.Units.{is_read}
+use Rattle.java_parser_grammar.specs.Units.{BeginsAt, IsMember, IsClass, AreTypes, body_among}
 use Rattle.java_parser_grammar.proofs.Joined.{joined_items}
 use Rattle.java_parser_grammar.proofs.Misfits.{cut_or_misfit}
+use Rattle.java_parser_grammar.proofs.ReadHeads.{head_or_none}
 use Rattle.java_parser_totality.specs.Totality.{most, IsUnitOrFault, IsTotalUnits}
-use Rattle.java_parser_totality.proofs.Filling.{EachGood, filter-good, types-good, members-good, body-short}
-use Rattle.java_parser_totality.proofs.MadeAnnotations.{pieces-shaped, annotations-read}
+use Rattle.java_parser_totality.proofs.Filling.{EachGood, types-good, members-good, body-short}
 use Rattle.java_parser_totality.proofs.TotalMembers.{begins-at, any-members}
 
 -- ---- classes
@@ -35,46 +35,55 @@ body-few type few =
     let all : length (joined (items_of type)) ≡ length type = ap (λ (l : List Token). length l) (joined_items 0 type) in
     omega (arith, all, few, body-short (items_of type))
 
-class-read : (type : List Token) → length type < most → (name : Token) → read_name type ≡ Some name → AClass type
-class-read type few name is =
-    of (annotations-read (pieces_of type) (pieces-shaped type))
-    (any-members name.text (members_of (body_among (items_of type)))
+-- the tree of an annotation
+abbrev tree-of : Annotation → AnnotationTree
+tree-of n = record { names = n.names; arguments = n.arguments }
+
+viewed-again : (ns : List Annotation) → map annotation_of (map tree-of ns) ≡ ns
+viewed-again [] = refl
+viewed-again (n ∷ ns) = ap (λ (l : List Annotation). n ∷ l) (viewed-again ns)
+
+class-read : (type : List Token) → length type < most → (ms : List Modifier) (name : Token) → IsHead type ms name
+    → AClass type
+class-read type few ms name head =
+    of (any-members name.text (members_of (body_among (items_of type)))
     (members-good most (body_among (items_of type)) (body-few type few))) where
-      of : (ns : List AnnotationTree) × AllZip IsAnnotation (annotations_before (pieces_of type)) ns
-          → (xs : List Member) × AllZip (IsMember name.text) (members_of (body_among (items_of type))) xs
+      of : (xs : List Member) × AllZip (IsMember name.text) (members_of (body_among (items_of type))) xs
           → AClass type
-      of ns xs = (
-        record { name = name.text; place = name.place; annotations = ns.0; members = xs.0 },
-        record { name = name; is = is; named = refl; placed = refl; annotated = ns.1; members = xs.1 },
+      of xs = (
+        record {
+          name = name.text;
+          place = name.place;
+          annotations = map tree-of (annotations_in ms);
+          members = xs.0;
+        },
+        record {
+          modifiers = ms;
+          name = name;
+          head = head;
+          named = refl;
+          placed = refl;
+          annotated = viewed-again (annotations_in ms);
+          members = xs.1;
+        },
       )
 
-any-class : (type : List Token) → length type < most → is_read type ≡ true → AClass type
-any-class type few read = by (read_name type) refl where
-  by : (o : Option Token) → read_name type ≡ o → AClass type
-  by (Some name) is = class-read type few name is
-  by None is = absurd (let wrong : false ≡ true = sym (ap (λ (o : Option Token). is_some o) is) ∙ read in cc)
+abbrev SomeTypes : List (List Token) → Type 0
+SomeTypes types = (cs : List ClassTree) × (ps : List Place) × AreTypes types cs ps
 
-abbrev SomeClasses : List (List Token) → Type 0
-SomeClasses types = (cs : List ClassTree) × AllZip IsClass (filter is_read types) cs
+any-types : (types : List (List Token)) → EachGood most types → SomeTypes types
+any-types [] good = ([], [], tt)
+any-types (type ∷ types) good = by (head_or_none type) (any-types types good.1) where
+  read : AClass type → SomeTypes types → SomeTypes (type ∷ types)
+  read c all = (c.0 ∷ all.0, all.1, inl (c.1, all.2))
 
-any-classes : (types : List (List Token)) → EachGood most types → SomeClasses types
-any-classes [] good = ([], tt)
-any-classes (type ∷ types) good = by (is_read type) refl (any-classes types good.1) where
-  with : AClass type → SomeClasses types
-      → (cs : List ClassTree) × AllZip IsClass (type ∷ filter is_read types) cs
-  with c cs = (c.0 ∷ cs.0, (c.1, cs.1))
+  skipped : HasNoHead type → (p : Place) × BeginsAt type p → SomeTypes types → SomeTypes (type ∷ types)
+  skipped none p all = (all.0, p.0 ∷ all.1, inr (none, p.1, all.2))
 
-  by : (b : Bool) → is_read type ≡ b → SomeClasses types
-      → (cs : List ClassTree) × AllZip IsClass (cond b (type ∷ filter is_read types) (filter is_read types)) cs
-  by true e k = with (any-class type good.0.1 e) k
-  by false e k = k
-
-any-places : (types : List (List Token)) → EachGood most types → (ps : List Place) × AllZip BeginsAt types ps
-any-places [] good = ([], tt)
-any-places (type ∷ types) good = of (begins-at type good.0.0) (any-places types good.1) where
-  of : (p : Place) × BeginsAt type p → (ps : List Place) × AllZip BeginsAt types ps
-      → (ps : List Place) × AllZip BeginsAt (type ∷ types) ps
-  of p ps = (p.0 ∷ ps.0, (p.1, ps.1))
+  by : ((ms : List Modifier) × (name : Token) × IsHead type ms name) ⊎ HasNoHead type → SomeTypes types
+      → SomeTypes (type ∷ types)
+  by (inl h) all = read (class-read type good.0.1 h.0 h.1 h.2) all
+  by (inr none) all = skipped none (begins-at type good.0.0) all
 
 -- ---- files
 
@@ -84,21 +93,19 @@ module _ (ts : List Token) (end : Place) (few : length ts < most) where
 
   unit-of : unbalanced [] ts ≡ None → too_deep 0 ts ≡ None → (ds : List (List Item))
       → AreDeclarations (items_of ts) ds → Answer
-  unit-of balanced flat ds fit = of (any-classes (types_among ds) good) (any-places _ (filter-good most _ (types_among
-      ds) good)) where
-        whole : joined (joined ds) ≡ ts
-        whole = ap joined fit.together ∙ joined_items 0 ts
+  unit-of balanced flat ds fit = of (any-types (types_among ds) good) where
+    whole : joined (joined ds) ≡ ts
+    whole = ap joined fit.together ∙ joined_items 0 ts
 
-        good : EachGood most (types_among ds)
-        good = types-good most ds (subst (λ (l : List Token). length l < most) (sym whole) few)
+    good : EachGood most (types_among ds)
+    good = types-good most ds (subst (λ (l : List Token). length l < most) (sym whole) few)
 
-        of : SomeClasses (types_among ds)
-            → (ps : List Place) × AllZip BeginsAt (filter (λ type. not (is_read type)) (types_among ds)) ps → Answer
-        of cs ps =
-            inl (
-              record { classes = cs.0; skipped = ps.0 },
-              record { balanced = balanced; flat = flat; all = ds; fit = fit; classes = cs.1; skipped = ps.1 },
-            )
+    of : SomeTypes (types_among ds) → Answer
+    of all =
+        inl (
+          record { classes = all.0; skipped = all.1 },
+          record { balanced = balanced; flat = flat; all = ds; fit = fit; types = all.2 },
+        )
 
   by-declarations : unbalanced [] ts ≡ None → too_deep 0 ts ≡ None
       → ((ds : List (List Item)) × AreDeclarations (items_of ts) ds)

@@ -1,7 +1,7 @@
 use Rattle.std.proofs.Common.{List, Bor, map, sym, subst}
 use Rattle.java_lexer.specs.declared.token.Token.{Token}
-use Rattle.java_parser_grammar.specs.Units.{IsUnit}
-use Rattle.java_parser.specs.ReadTypes.{HaveTokens, AreRead}
+use Rattle.java_parser_grammar.specs.Units.{AreTypes, IsUnit}
+use Rattle.java_parser.specs.ReadTypes.{HaveTokens}
 use Rattle.java_parser.proofs.SomeTokens.{types_have_tokens}
 use Rattle.java_parser.proofs.UnitSteps.{is_unit}
 use Rattle.java_parser.proofs.units.parse_unit.Goals as goal
@@ -19,4 +19,4 @@ returns-clause-unit c =
     subst (λ (ts : List Token). IsUnit ts u) c.as_slice-tokens.ensures
     (is_unit tokens (map (λ t. t.now) c.in_ok-types.types.items) u c.in_ok-check_brackets.ensures.fine
     c.in_ok-types.ensures.ok
-    (subst (λ ts. AreRead (map (λ t. t.now) ts) u) c.as_slice.ensures.value c.in_ok-unit.ensures))
+    (subst (λ ts. AreTypes (map (λ t. t.now) ts) u.classes u.skipped) c.as_slice.ensures.value c.in_ok-unit.ensures))

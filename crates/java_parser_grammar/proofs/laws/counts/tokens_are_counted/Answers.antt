@@ -1,5 +1,5 @@
-use Rattle.java_parser_grammar.proofs.CountedMembers.{classes_counted}
+use Rattle.java_parser_grammar.proofs.CountedMembers.{types_counted}
 use Rattle.java_parser_grammar.proofs.laws.counts.tokens_are_counted.Goals as goal
 
 pub returns : goal.returns
-returns c = λ tokens u is. classes_counted _ u.classes is.classes
+returns c = λ tokens u is. types_counted _ u.classes u.skipped is.types
