@@ -17,7 +17,6 @@ mod DeclarationSteps
 pub mod HeadSteps
 mod TypeSteps
 mod FileTypes
-pub mod AnnotationSteps
 pub mod ClassSteps
 pub mod UnitSteps
 pub mod SameFields
