@@ -1,7 +1,7 @@
 //! Methods of Java, read from their tokens.
 //!
-//! One reader serves the modifiers of methods, fields and variables, told which words may stand; what stands before the
-//! name of a variable is read the same everywhere. The body of a local class stays tokens.
+//! One reader serves the modifiers of types, methods, fields and variables, told which words may stand; what stands
+//! before the name of a variable is read the same everywhere. The body of a local class stays tokens.
 //! `goes_on word s` says for `else`, `catch` and `finally` whether a word would belong to s where it stands behind it.
 #![tactic(auto)]
 
