@@ -1,20 +1,29 @@
 -- A loop that looks for the `>` of type arguments, at the signs that count.
-use Rattle.std.proofs.Common.{◌≡◌, ℕ, zero, suc, ◌+◌, ◌-◌, ◌<◌, Bool, true, false, List, ◌∷◌, nat_lt, arith, codes}
+use Rattle.std.proofs.Common.{◌≡◌, ℕ, zero, suc, ◌+◌, ◌-◌, ◌<◌, Bool, true, false, List, [], ◌∷◌, ◌&&◌, Option, Some}
+use Rattle.std.proofs.Common.{None, nat_lt, arith, codes, if◌then◌else◌}
 use Rattle.std.proofs.lemmas.Bool.{lt-ltb}
 use Rattle.java_tree.specs.declared.words.Spelled.{Spelled}
+use Rattle.java_parser_grammar.specs.Taking.{match_number, after_sign}
+use Rattle.java_parser_grammar.specs.TypeReading.{closes_angle, closes_bracket, no_operand_at}
 use Rattle.java_tree.specs.Brackets.{is_sign}
-use Rattle.java_parser_grammar.specs.TypeReading.{is_angle_sign, closes_angle}
 
-pub less_passed : (l d : ℕ) (t : Spelled) (ts : List Spelled) (total : Bool) → is_sign (codes "<") t ≡ true → d < l
-    → closes_angle l d (t ∷ ts) ≡ total → closes_angle l (d + 1) ts ≡ total
-less_passed l d t ts total s room e =
+pub opened : (l d : ℕ) (ts : List Spelled) (total : Bool) → d < l → (nat_lt d l && closes_angle l (suc d) ts) ≡ total
+    → closes_angle l (d + 1) ts ≡ total
+opened l d ts total room e =
     let next : d + 1 ≡ suc d = omega arith in
     let less : nat_lt d l ≡ true = lt-ltb d l room in
-    rw next (rw (s, less) at e)
+    rw next (rw less at e)
 
-pub angle_passed : (l d : ℕ) (t : Spelled) (ts : List Spelled) (total : Bool) → is_sign (codes "<") t ≡ false
-    → is_angle_sign t ≡ true → 0 < d → closes_angle l d (t ∷ ts) ≡ total → closes_angle l (d - 1) ts ≡ total
-angle_passed l zero t ts total s a inside e = absurd (omega arith)
-angle_passed l (suc k) t ts total s a inside e =
+pub closed : (l d : ℕ) (ts : List Spelled) (total : Bool) → 0 < d
+    → match_number d (no_operand_at ts) (λ e. closes_angle l e ts) ≡ total → closes_angle l (d - 1) ts ≡ total
+closed l zero ts total inside e = absurd (omega arith)
+closed l (suc k) ts total inside e =
     let last : suc k - 1 ≡ k = omega arith in
-    rw last (rw (s, a) at e)
+    rw last e
+
+pub bracketed : (l d : ℕ) (ts rest : List Spelled) (total : Bool) → after_sign (codes "]") ts ≡ Some rest
+    → closes_bracket l d ts ≡ total → closes_angle l d rest ≡ total
+bracketed l d [] rest total behind e = absurd cc
+bracketed l d (t ∷ ts) rest total behind e =
+    (elim (is_sign (codes "]") t) as (λ b. (if b then Some ts else None) ≡ Some rest → (b && closes_angle l d ts) ≡ total
+    → closes_angle l d rest ≡ total) [ true ↦ λ s k. let same : rest ≡ ts = cc in rw same k | false ↦ λ s k. absurd cc ]) behind e

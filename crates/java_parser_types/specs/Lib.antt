@@ -8,3 +8,4 @@ pub mod Placed
 pub mod LedPlaces
 pub mod AwaitedBrackets
 pub mod ExactTypes
+pub mod AngleSteps

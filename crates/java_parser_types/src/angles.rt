@@ -1,10 +1,13 @@
 //! Whether type arguments or a comparison begin with a `<` (JLS 15.20).
-ghost use Rattle.std.specs.Prelude.{◌≡◌, ◌<◌, Some, None, MatchOption, IfSome, length, map};
-ghost use Rattle.java_tree.specs.Formed.{is_literal};
+ghost use Rattle.std.specs.Prelude.{◌≡◌, ◌<◌, ◌||◌, Some, None, MatchOption, IfSome, length, map};
+ghost use Rattle.std.specs.Prelude.{bytes_eq, codes};
+ghost use Rattle.java_tree.specs.Formed.{is_literal, is_plain_word};
 ghost use Rattle.java_tree.specs.KeptPlaces.{kept};
 ghost use Rattle.java_tree.specs.Operators.{is_signed};
 ghost use Rattle.java_parser_grammar.specs.TypeReading.{after_less, begins_operand, closes_angle, in_arguments};
 ghost use Rattle.java_parser_grammar.specs.TypeReading.{is_angle_sign, no_operand_at, opens, opens_word};
+ghost use Rattle.java_tree.specs.Words.{keyword, sign};
+ghost use Rattle.java_parser_types.specs.AngleSteps.{Steps};
 ghost use Rattle.java_parser_types.specs.Tokens.{spelled};
 
 use super::look::{
@@ -92,6 +95,83 @@ pub fn in_arguments(token: &Token) -> bool
         || is_keyword(token, "super")
 }
 
+/// What a token is among type arguments.
+#[derive(Clone, Copy)]
+enum AngleStep {
+    /// A `<`.
+    Opens,
+    /// A `>`, glued or not.
+    Closes,
+    /// A `[`, behind which a `]` has to stand.
+    Indexes,
+    /// It may stand there.
+    Stays,
+    /// It may not.
+    Ends,
+}
+
+/// What a sign is that is glued to nothing.
+fn sign_step(text: &str) -> AngleStep
+    ensures { Steps (sign text.now) result }
+{
+    match text {
+        "<" => AngleStep::Opens,
+        ">" => AngleStep::Closes,
+        "[" => AngleStep::Indexes,
+        "," | "." | "?" => AngleStep::Stays,
+        _ => AngleStep::Ends,
+    }
+}
+
+/// Whether a keyword may stand among type arguments.
+fn word_in_arguments(text: &str) -> bool
+    ensures { result ≡ (is_plain_word text.now || (bytes_eq text.now (codes "extends") || bytes_eq text.now
+        (codes "super"))) }
+{
+    matches!(
+        text,
+        "extends"
+            | "super"
+            | "boolean"
+            | "byte"
+            | "short"
+            | "int"
+            | "long"
+            | "char"
+            | "float"
+            | "double"
+    )
+}
+
+fn word_step(text: &str) -> AngleStep
+    ensures { Steps (keyword text.now) result }
+{
+    if word_in_arguments(text) {
+        AngleStep::Stays
+    } else {
+        AngleStep::Ends
+    }
+}
+
+/// What the token is among type arguments, by its kind first: each of many `<` asks it of all tokens behind it.
+fn step(token: &Token) -> AngleStep
+    ensures { Steps (spelled token.now) result }
+{
+    if token.glued {
+        return if is_angle_sign(token) {
+            AngleStep::Closes
+        } else {
+            AngleStep::Ends
+        };
+    }
+    match token.kind {
+        TokenKind::Name => AngleStep::Stays,
+        TokenKind::Sign => sign_step(token.text.as_str()),
+        TokenKind::Keyword => word_step(token.text.as_str()),
+        _ => AngleStep::Ends,
+    }
+}
+
 /// Whether the tokens behind a `<` close it as type arguments, with no operand behind the `>`.
 ///
 /// It looks no further than to where more than `limit` are open, so that all of these look-aheads in an expression look
@@ -103,23 +183,27 @@ pub fn closes_angle(limit: u32, tokens: &[Token]) -> bool
     let mut rest = tokens;
     while let Some((token, after)) = rest.split_first() {
         rest = after;
-        if is_sign(token, "<") {
-            if depth >= limit {
-                return false;
+        match step(token) {
+            AngleStep::Opens => {
+                if depth >= limit {
+                    return false;
+                }
+                depth += 1;
             }
-            depth += 1;
-        } else if is_angle_sign(token) {
-            if depth == 0 {
-                return no_operand_at(after);
+            AngleStep::Closes => {
+                if depth == 0 {
+                    return no_operand_at(after);
+                }
+                depth -= 1;
             }
-            depth -= 1;
-        } else if is_sign(token, "[") {
-            let Some(behind) = after_sign(after, "]") else {
-                return false;
-            };
-            rest = behind;
-        } else if !in_arguments(token) {
-            return false;
+            AngleStep::Indexes => {
+                let Some(behind) = after_sign(after, "]") else {
+                    return false;
+                };
+                rest = behind;
+            }
+            AngleStep::Stays => {}
+            AngleStep::Ends => return false,
         }
     }
     false

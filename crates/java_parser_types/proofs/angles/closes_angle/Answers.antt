@@ -1,21 +1,28 @@
-use Rattle.std.proofs.Common.{map, sym, ◌∙◌, arith}
+use Rattle.std.proofs.Common.{map, ◌∙◌, arith}
 use Rattle.java_parser_types.specs.Tokens.{spelled}
-use Rattle.java_parser_types.proofs.AngleLoop.{less_passed, angle_passed}
+use Rattle.java_parser_types.proofs.AngleLoop.{opened, closed, bracketed}
 use Rattle.java_parser_types.proofs.angles.closes_angle.Goals as goal
 
-pub loop-token-preserved-then-is_sign : goal.loop-token-preserved-then-is_sign
-loop-token-preserved-then-is_sign c =
+pub loop-token-preserved-in-Opens : goal.loop-token-preserved-in-Opens
+loop-token-preserved-in-Opens c =
     let so_far = rw c.in-Some.ensures.cases.0 at c.loop-token.invariant.gives in
-    record {
-      gives = less_passed c.args.limit c.loop-token.depth (spelled c.in-Some.token.now)
-          (map spelled c.in-Some.after.now) _ (sym c.is_sign.ensures ∙ c.if-is_sign.true) c.if-depth-limit.false so_far;
-    }
+    let after = map spelled c.in-Some.after.now in
+    let step = c.in-Opens.ensures c.args.limit c.loop-token.depth after in
+    record { gives = opened c.args.limit c.loop-token.depth after _ c.if-depth-limit.false (step ∙ so_far); }
 
-pub loop-token-preserved-then-is_angle_sign : goal.loop-token-preserved-then-is_angle_sign
-loop-token-preserved-then-is_angle_sign c =
+pub loop-token-preserved-in-Closes : goal.loop-token-preserved-in-Closes
+loop-token-preserved-in-Closes c =
     let so_far = rw c.in-Some.ensures.cases.0 at c.loop-token.invariant.gives in
+    let after = map spelled c.in-Some.after.now in
+    let step = c.in-Closes.ensures c.args.limit c.loop-token.depth after in
+    record { gives = closed c.args.limit c.loop-token.depth after _ (omega (arith, c.if-depth-eq0.false)) (step ∙ so_far); }
+
+pub loop-token-preserved-in-Indexes : goal.loop-token-preserved-in-Indexes
+loop-token-preserved-in-Indexes c =
+    let so_far = rw c.in-Some.ensures.cases.0 at c.loop-token.invariant.gives in
+    let after = map spelled c.in-Some.after.now in
+    let step = c.in-Indexes.ensures c.args.limit c.loop-token.depth after in
     record {
-      gives = angle_passed c.args.limit c.loop-token.depth (spelled c.in-Some.token.now)
-          (map spelled c.in-Some.after.now) _ (sym c.is_sign.ensures ∙ c.if-is_sign.false)
-          (sym c.is_angle_sign.ensures ∙ c.if-is_angle_sign.true) (omega (arith, c.if-depth-eq0.false)) so_far;
+      gives = bracketed c.args.limit c.loop-token.depth after
+          (map spelled c.in-Some-after_sign.behind.now) _ c.in-Some-after_sign.ensures.gives (step ∙ so_far);
     }
