@@ -7,9 +7,9 @@ use Rattle.java_tree.specs.Trees.{Expr}
 use Rattle.java_parser_grammar.specs.ExpressionReading.{read_at, operand_with, climb_with, array_at, lambda_with}
 use Rattle.java_parser_grammar.specs.Leads.{begins_lambda}
 use Rattle.java_parser_grammar.specs.TypeReading.{made_base_at}
-use Rattle.java_parser_expressions.specs.declared.lambdas.Lambdas as lambdas
-use Rattle.java_parser_expressions.specs.declared.lambdas.Lambdas.TheVariants as stand
-use Rattle.java_parser_expressions.specs.LambdaPlaces.{part_level}
+use Rattle.java_parser_lookahead.specs.declared.lambdas.Lambdas as lambdas
+use Rattle.java_parser_lookahead.specs.declared.lambdas.Lambdas.TheVariants as stand
+use Rattle.java_parser_lookahead.specs.LambdaPlaces.{part_level}
 
 -- what is read of a nesting of at most m, with one more around it
 module _ (m l : ℕ) (ts : List Spelled) where

@@ -2,4 +2,3 @@ pub mod TurnView
 pub mod ClassFollows
 pub mod Closings
 pub mod References
-pub mod LambdaPlaces

@@ -7,19 +7,20 @@ ghost use Rattle.java_parser_grammar.specs.ExpressionReading.{index_with, turn_w
 ghost use Rattle.java_parser_grammar.specs.Leads.{lead};
 ghost use Rattle.java_parser_types.specs.Tokens.{spelled};
 ghost use Rattle.java_parser_lookahead.specs.FirstParenthesis.{nests};
-ghost use Rattle.java_parser_expressions.specs.LambdaPlaces.{part_level};
+ghost use Rattle.java_parser_lookahead.specs.LambdaPlaces.{part_level};
 ghost use Rattle.java_parser_expressions.specs.TurnView.{turn_of, TurnLeadsOn, IsSmall, IsWithin};
 ghost use Rattle.java_parser_types.specs.LedPlaces.{Leads, LeadsOn};
 ghost use Rattle.java_parser_types.specs.ReadAnswer.{Gives};
 
 use super::arguments::call_arguments;
 use super::first_operand::operand;
-use super::lambdas::{Lambdas, lambda_part};
+use super::lambdas::lambda_part;
 use super::nested::NestedExpression;
 use super::progress::Progress;
 use super::references::refer;
 use super::turns::{assigned, called, chosen, indexed, joined, selected, stepped, tested};
 use java_lexer::Token;
+use java_parser_lookahead::lambdas::Lambdas;
 use java_parser_lookahead::leads::{Lead, begins_lambda, lead_at, seen_lambda};
 use java_parser_lookahead::levels::{binary_level, goes_on};
 use java_parser_lookahead::lookahead::begins_with;

@@ -1,31 +1,27 @@
 //! Reading lambdas (JLS 15.27).
-ghost use Rattle.std.specs.Prelude.{◌≡◌, ◌<◌, ◌≤◌, ◌^◌, ℕ, suc, true, List, length, map, nat_le, IfOk};
-ghost use Rattle.std.specs.Prelude.{if◌then◌else◌};
-ghost use Rattle.java_tree.specs.declared.words.Spelled.{Spelled};
-ghost use Rattle.java_tree.specs.Formed.{are_plain};
+ghost use Rattle.std.specs.Prelude.{◌≡◌, ◌<◌, ◌≤◌, ◌^◌, suc, true, length, map, IfOk};
 ghost use Rattle.java_tree.specs.KeptPlaces.{Marks, kept, no_places, expr_places};
 ghost use Rattle.java_tree.specs.Operators.{assignment_level};
 ghost use Rattle.java_tree.specs.Trees.{BlockLambda};
-ghost use Rattle.java_tree.specs.View.{expr_of, ty_of};
-ghost use Rattle.java_parser_grammar.specs.ExpressionReading.{lambda_level, lambda_parameters_at, lambda_with};
-ghost use Rattle.java_parser_grammar.specs.ExpressionReading.{read_at};
+ghost use Rattle.java_tree.specs.View.{expr_of};
+ghost use Rattle.java_parser_grammar.specs.ExpressionReading.{lambda_parameters_at, lambda_with, read_at};
 ghost use Rattle.java_parser_grammar.specs.Leads.{begins_lambda};
 ghost use Rattle.java_parser_expressions.specs.Closings.{as_read, lambda_end};
-ghost use Rattle.java_parser_expressions.specs.LambdaPlaces.{part_level};
+ghost use Rattle.java_parser_lookahead.specs.LambdaPlaces.{part_level};
 ghost use Rattle.java_parser_types.specs.LedPlaces.{Leads};
 ghost use Rattle.java_parser_types.specs.ReadAnswer.{Gives};
 ghost use Rattle.java_parser_types.specs.Tokens.{spelled};
 
 use super::expressions::read_expression;
 use super::nested::NestedExpression;
-use super::operands::are_plain;
 use java_lexer::Token;
+use java_parser_lookahead::brackets::{Bracket, between, braces_tokens, copied};
+use java_parser_lookahead::lambdas::{Lambdas, may_stand};
 use java_parser_lookahead::leads::ends_expression;
 use java_parser_lookahead::lookahead::begins_with;
-use java_parser_types::brackets::{Bracket, between, braces_tokens, copied};
 use java_parser_types::error::ReadError;
 use java_parser_types::look::{is_sign, sign};
-use java_tree::{Expression, LambdaBody, LambdaTree, Spelled, TypeTree};
+use java_tree::{Expression, LambdaBody, LambdaTree, Spelled};
 use racer_base::Items;
 use std::alloc::Global;
 
@@ -98,38 +94,6 @@ fn with_value<'a>(
     };
     let lambda = Box::new(alloc, lambda)?;
     NestedExpression::before(alloc, Expression::Lambda(lambda), nesting, tokens)
-}
-
-/// Where a lambda may stand beside the expressions of a level.
-#[derive(Clone, Copy)]
-pub enum Lambdas {
-    /// Where an assignment may.
-    AsAssignments,
-    /// At every level: as the last part of a conditional expression, and behind a cast.
-    Anywhere,
-}
-
-/// Whether a lambda may stand where parts of this level are read.
-fn may_stand(lambdas: Lambdas, level: u32) -> bool
-    ensures { (ts : List Spelled) → begins_lambda ts ≡ true → nat_le (part_level lambdas level ts) assignment_level
-        ≡ result }
-{
-    match lambdas {
-        Lambdas::AsAssignments => level == 0,
-        Lambdas::Anywhere => true,
-    }
-}
-
-/// Where a lambda may stand behind a cast to these types: no primitive value is one.
-pub fn lambdas_behind(types: &[TypeTree]) -> Lambdas
-    ensures { (level : ℕ) (ts : List Spelled) → part_level result level ts ≡ (if are_plain (map ty_of types.now)
-        then level else lambda_level level ts) }
-{
-    if are_plain(types) {
-        Lambdas::AsAssignments
-    } else {
-        Lambdas::Anywhere
-    }
 }
 
 /// The lambda that begins here, where one may stand.

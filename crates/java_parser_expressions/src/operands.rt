@@ -1,7 +1,7 @@
 //! Expressions with no expression at their left, made of what was read in them.
 ghost use Rattle.std.specs.Prelude.{◌≡◌, ◌<◌, ◌≤◌, ◌^◌, suc, max, ◌∷◌, ◌++◌, Some, None, not, ◌||◌, if◌then◌else◌};
 ghost use Rattle.std.specs.Prelude.{length, map, codes, IfOk};
-ghost use Rattle.java_tree.specs.Formed.{are_plain, is_named, is_plain, is_variable};
+ghost use Rattle.java_tree.specs.Formed.{is_named, is_variable};
 ghost use Rattle.java_tree.specs.Operators.{is_step};
 ghost use Rattle.java_tree.specs.Trees.{Typed, Cast, Literal, This, Name, Call, New, NewBody, NewItems, pack_exprs};
 ghost use Rattle.java_tree.specs.KeptPlaces.{Marks, kept, all_places, each_puts, some_onto, no_places, types_places};
@@ -175,23 +175,6 @@ pub fn cast_types(
 {
     let (types, rest) = types_between(alloc, limit, "&", tokens)?;
     Ok((Box::new(alloc, types)?, rest))
-}
-
-/// A primitive type without `[ ]`.
-fn is_plain(kind: &TypeTree) -> bool
-    ensures { result ≡ is_plain (ty_of kind.now) }
-{
-    kind.arrays == 0 && matches!(kind.base, BaseType::Plain(_))
-}
-
-/// Whether a cast is one to a primitive type alone.
-pub fn are_plain(types: &[TypeTree]) -> bool
-    ensures { result ≡ are_plain (map ty_of types.now) }
-{
-    match types {
-        [kind] => is_plain(kind),
-        _ => false,
-    }
 }
 
 /// JLS 15.16.

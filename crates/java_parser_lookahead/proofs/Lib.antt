@@ -1,1 +1,2 @@
 pub mod FirstClosing
+pub mod BracketLoops

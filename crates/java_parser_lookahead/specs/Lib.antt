@@ -4,3 +4,5 @@ pub mod NearerLevels
 pub mod MarkLeads
 pub mod StatementLeadView
 pub mod FirstParenthesis
+pub mod AwaitedBrackets
+pub mod LambdaPlaces

@@ -16,10 +16,10 @@ use Rattle.java_tree.specs.Words.{keyword, identifier}
 use Rattle.java_parser_grammar.specs.BalancedReading.{between_at}
 use Rattle.java_parser_grammar.specs.StatementReading.{class_from, local_class_at}
 use Rattle.java_parser_grammar.specs.Taking.{◌>>=◌, after_keyword, after_name}
-use Rattle.java_parser_types.specs.declared.brackets.Bracket.{Bracket}
+use Rattle.java_parser_lookahead.specs.declared.brackets.Bracket.{Bracket}
 use Rattle.java_parser_types.specs.declared.error.ReadError.{ReadError}
 use Rattle.java_parser_types.specs.declared.error.ReadError.TheVariants.{Memory, Unformed}
-use Rattle.java_parser_types.specs.AwaitedBrackets.{closing, awaited_onto}
+use Rattle.java_parser_lookahead.specs.AwaitedBrackets.{closing, awaited_onto}
 use Rattle.java_parser_types.specs.Tokens.{spelled}
 use Rattle.java_parser_types.specs.Finishing.{finished}
 use Rattle.java_parser_types.specs.Endings.{as_they_are}

@@ -13,8 +13,8 @@ ghost use Rattle.java_parser_types.specs.Endings.{as_they_are};
 ghost use Rattle.java_parser_types.specs.ReadAnswer.{Gives};
 
 use java_lexer::Token;
+use java_parser_lookahead::brackets::{Bracket, between};
 use java_parser_lookahead::lookahead::begins_with;
-use java_parser_types::brackets::{Bracket, between};
 use java_parser_types::error::ReadError;
 use java_parser_types::look::{after_sign, name};
 use java_tree::{AnnotationTree, Spelled};

@@ -6,7 +6,7 @@ ghost use Rattle.java_tree.specs.Brackets.{is_class_word, are_none, awaited_in_h
 ghost use Rattle.java_tree.specs.KeptPlaces.{kept, behind_name};
 ghost use Rattle.java_tree.specs.Words.{keyword, identifier};
 ghost use Rattle.java_parser_grammar.specs.StatementReading.{class_from, local_class_at};
-ghost use Rattle.java_parser_types.specs.AwaitedBrackets.{awaited_onto};
+ghost use Rattle.java_parser_lookahead.specs.AwaitedBrackets.{awaited_onto};
 ghost use Rattle.java_parser_grammar.specs.BalancedReading.{between_at};
 ghost use Rattle.java_parser_methods.specs.ClassReading.{Appends, class_words_at, class_head_at, named_class_at};
 ghost use Rattle.java_parser_methods.specs.ClassReading.{class_of, class_places};
@@ -17,7 +17,7 @@ ghost use Rattle.java_parser_types.specs.Endings.{as_they_are};
 ghost use Rattle.java_parser_types.specs.ReadAnswer.{Gives};
 
 use java_lexer::Token;
-use java_parser_types::brackets::{Bracket, between, copied, is_closing, pass};
+use java_parser_lookahead::brackets::{Bracket, between, copied, is_closing, pass};
 use java_parser_types::error::ReadError;
 use java_parser_types::look::{ident, is_keyword, is_name, is_sign};
 use java_tree::{Ident, Spelled};

@@ -1,8 +1,13 @@
 -- A loop that looks for the `>` of type arguments, at the signs that count.
-use Rattle.std.proofs.Common.{◌≡◌, ℕ, zero, suc, ◌+◌, ◌-◌, ◌<◌, Bool, true, false, List, [], ◌∷◌, ◌&&◌, Option, Some}
+use Rattle.std.proofs.Common.{◌≡◌, ℕ, zero, suc, ◌+◌, ◌-◌, ◌<◌, Bool, true, false, List, [], ◌∷◌, ◌&&◌, Some}
 use Rattle.std.proofs.Common.{None, nat_lt, arith, codes, if◌then◌else◌}
+use Rattle.std.proofs.Common.{length, nat_eq, refl}
+use Rattle.std.proofs.Math.Bool.{and-false}
 use Rattle.std.proofs.lemmas.Bool.{lt-ltb}
 use Rattle.java_tree.specs.declared.words.Spelled.{Spelled}
+use Rattle.java_tree.specs.Words.{sign}
+use Rattle.java_parser_types.specs.AngleSteps.{Steps}
+use Rattle.java_parser_types.specs.declared.angles.AngleStep.TheVariants as step
 use Rattle.java_parser_grammar.specs.Taking.{match_number, after_sign}
 use Rattle.java_parser_grammar.specs.TypeReading.{closes_angle, closes_bracket, no_operand_at}
 use Rattle.java_tree.specs.Brackets.{is_sign}
@@ -27,3 +32,17 @@ bracketed l d [] rest total behind e = absurd cc
 bracketed l d (t ∷ ts) rest total behind e =
     (elim (is_sign (codes "]") t) as (λ b. (if b then Some ts else None) ≡ Some rest → (b && closes_angle l d ts) ≡ total
     → closes_angle l d rest ≡ total) [ true ↦ λ s k. let same : rest ≡ ts = cc in rw same k | false ↦ λ s k. absurd cc ]) behind e
+
+-- no sign among type arguments is longer than a byte
+pub other_sign : (text : List ℕ) → (length text ≡ 1 → ⊥) → Steps (sign text) step.Ends
+other_sign [] long l d ts = refl
+other_sign (a ∷ []) long l d ts = absurd (long refl)
+other_sign (a ∷ (b ∷ bs)) long l d ts =
+    rw (
+      and-false (nat_eq a 60),
+      and-false (nat_eq a 62),
+      and-false (nat_eq a 91),
+      and-false (nat_eq a 46),
+      and-false (nat_eq a 44),
+      and-false (nat_eq a 63),
+    ) refl

@@ -7,7 +7,6 @@ pub mod PutPlaces
 pub mod ReadParts
 pub mod LastCalls
 pub mod LedMarks
-pub mod BracketLoops
 pub mod SignLoops
 pub mod ExactTypes
 mod AngleLoop

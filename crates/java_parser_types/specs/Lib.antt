@@ -6,6 +6,5 @@ pub mod PointBehind
 pub mod Whole
 pub mod Placed
 pub mod LedPlaces
-pub mod AwaitedBrackets
 pub mod ExactTypes
 pub mod AngleSteps

@@ -1,12 +1,11 @@
 //! Whether type arguments or a comparison begin with a `<` (JLS 15.20).
-ghost use Rattle.std.specs.Prelude.{◌≡◌, ◌<◌, ◌||◌, Some, None, MatchOption, IfSome, length, map};
-ghost use Rattle.std.specs.Prelude.{bytes_eq, codes};
-ghost use Rattle.java_tree.specs.Formed.{is_literal, is_plain_word};
+ghost use Rattle.std.specs.Prelude.{◌≡◌, ◌<◌, [], ◌∷◌, Some, None, MatchOption, IfSome, length, map};
+ghost use Rattle.java_tree.specs.Formed.{is_literal};
 ghost use Rattle.java_tree.specs.KeptPlaces.{kept};
 ghost use Rattle.java_tree.specs.Operators.{is_signed};
 ghost use Rattle.java_parser_grammar.specs.TypeReading.{after_less, begins_operand, closes_angle, in_arguments};
 ghost use Rattle.java_parser_grammar.specs.TypeReading.{is_angle_sign, no_operand_at, opens, opens_word};
-ghost use Rattle.java_tree.specs.Words.{keyword, sign};
+ghost use Rattle.java_tree.specs.Words.{sign};
 ghost use Rattle.java_parser_types.specs.AngleSteps.{Steps};
 ghost use Rattle.java_parser_types.specs.Tokens.{spelled};
 
@@ -110,51 +109,32 @@ enum AngleStep {
     Ends,
 }
 
-/// What a sign is that is glued to nothing.
-fn sign_step(text: &str) -> AngleStep
-    ensures { Steps (sign text.now) result }
+/// What a sign of one byte is that is glued to nothing.
+fn byte_step(byte: u8) -> AngleStep
+    ensures { Steps (sign (byte ∷ [])) result }
 {
-    match text {
-        "<" => AngleStep::Opens,
-        ">" => AngleStep::Closes,
-        "[" => AngleStep::Indexes,
-        "," | "." | "?" => AngleStep::Stays,
+    match byte {
+        b'<' => AngleStep::Opens,
+        b'>' => AngleStep::Closes,
+        b'[' => AngleStep::Indexes,
+        b',' | b'.' | b'?' => AngleStep::Stays,
         _ => AngleStep::Ends,
     }
 }
 
-/// Whether a keyword may stand among type arguments.
-fn word_in_arguments(text: &str) -> bool
-    ensures { result ≡ (is_plain_word text.now || (bytes_eq text.now (codes "extends") || bytes_eq text.now
-        (codes "super"))) }
+/// What a sign is that is glued to nothing.
+fn sign_step(text: &[u8]) -> AngleStep
+    ensures { Steps (sign text.now) result }
 {
-    matches!(
-        text,
-        "extends"
-            | "super"
-            | "boolean"
-            | "byte"
-            | "short"
-            | "int"
-            | "long"
-            | "char"
-            | "float"
-            | "double"
-    )
-}
-
-fn word_step(text: &str) -> AngleStep
-    ensures { Steps (keyword text.now) result }
-{
-    if word_in_arguments(text) {
-        AngleStep::Stays
-    } else {
-        AngleStep::Ends
+    match text {
+        [byte] => byte_step(*byte),
+        _ => AngleStep::Ends,
     }
 }
 
-/// What the token is among type arguments, by its kind first: each of many `<` asks it of all tokens behind it.
-fn step(token: &Token) -> AngleStep
+/// What the token is among type arguments, by its kind and then by its byte: each `<` asks it of all tokens up to
+/// where it is closed or not.
+fn angle_step(token: &Token) -> AngleStep
     ensures { Steps (spelled token.now) result }
 {
     if token.glued {
@@ -166,8 +146,14 @@ fn step(token: &Token) -> AngleStep
     }
     match token.kind {
         TokenKind::Name => AngleStep::Stays,
-        TokenKind::Sign => sign_step(token.text.as_str()),
-        TokenKind::Keyword => word_step(token.text.as_str()),
+        TokenKind::Sign => sign_step(token.text.as_str().as_bytes()),
+        TokenKind::Keyword => {
+            if in_arguments(token) {
+                AngleStep::Stays
+            } else {
+                AngleStep::Ends
+            }
+        }
         _ => AngleStep::Ends,
     }
 }
@@ -183,7 +169,7 @@ pub fn closes_angle(limit: u32, tokens: &[Token]) -> bool
     let mut rest = tokens;
     while let Some((token, after)) = rest.split_first() {
         rest = after;
-        match step(token) {
+        match angle_step(token) {
             AngleStep::Opens => {
                 if depth >= limit {
                     return false;

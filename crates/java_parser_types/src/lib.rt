@@ -2,7 +2,6 @@
 #![tactic(auto)]
 
 pub mod angles;
-pub mod brackets;
 pub mod error;
 pub mod laws;
 pub mod look;

@@ -25,7 +25,7 @@ use Rattle.java_parser_types.specs.Tokens.{spelled}
 use Rattle.java_parser_expressions.proofs.CastChoice.{parens_alone}
 use Rattle.java_parser_expressions.proofs.ClassFacts.{follows_none}
 use Rattle.java_parser_expressions.proofs.LastCalls.{first_and_rest, sooner}
-use Rattle.java_parser_expressions.specs.LambdaPlaces.{part_level}
+use Rattle.java_parser_lookahead.specs.LambdaPlaces.{part_level}
 use Rattle.java_parser_expressions.proofs.+expressions.Goals as goal
 
 pub first_operand::cast-returns : goal.first_operand::cast-returns

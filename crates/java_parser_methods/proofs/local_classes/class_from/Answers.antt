@@ -5,8 +5,8 @@ use Rattle.java_tree.specs.KeptPlaces.{kept}
 use Rattle.java_tree.specs.Brackets.{are_none}
 use Rattle.java_parser_grammar.specs.BalancedReading.{between_at}
 use Rattle.java_parser_grammar.specs.StatementReading.{class_from}
-use Rattle.java_parser_types.specs.declared.brackets.Bracket.{Bracket}
-use Rattle.java_parser_types.specs.AwaitedBrackets.{awaited_onto}
+use Rattle.java_parser_lookahead.specs.declared.brackets.Bracket.{Bracket}
+use Rattle.java_parser_lookahead.specs.AwaitedBrackets.{awaited_onto}
 use Rattle.java_parser_types.specs.Finishing.{finished}
 use Rattle.java_parser_types.specs.Endings.{as_they_are}
 use Rattle.java_parser_types.specs.Tokens.{spelled}

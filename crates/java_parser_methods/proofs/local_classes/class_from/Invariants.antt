@@ -1,7 +1,7 @@
 use Rattle.std.proofs.Common.{◌≡◌, ◌≤◌, [], length, map}
 use Rattle.java_tree.specs.KeptPlaces.{kept}
 use Rattle.java_parser_grammar.specs.StatementReading.{class_from}
-use Rattle.java_parser_types.specs.AwaitedBrackets.{awaited_onto}
+use Rattle.java_parser_lookahead.specs.AwaitedBrackets.{awaited_onto}
 use Rattle.java_parser_types.specs.Tokens.{spelled}
 use Rattle.java_parser_types.specs.Finishing.{finished}
 use Rattle.java_parser_types.specs.Endings.{as_they_are}

@@ -1,6 +1,6 @@
 use Rattle.std.proofs.Common.{◌≡◌, [], ◌∷◌}
-use Rattle.java_parser_types.specs.AwaitedBrackets.{closing, awaited_onto}
-use Rattle.java_parser_types.proofs.BracketLoops.{awaited_push}
+use Rattle.java_parser_lookahead.specs.AwaitedBrackets.{closing, awaited_onto}
+use Rattle.java_parser_lookahead.proofs.BracketLoops.{awaited_push}
 use Rattle.java_parser_methods.proofs.local_classes.pass_in_head.Goals as goal
 
 pub returns-in-Some : goal.returns-in-Some

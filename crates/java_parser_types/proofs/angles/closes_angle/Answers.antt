@@ -8,14 +8,14 @@ loop-token-preserved-in-Opens c =
     let so_far = rw c.in-Some.ensures.cases.0 at c.loop-token.invariant.gives in
     let after = map spelled c.in-Some.after.now in
     let step = c.in-Opens.ensures c.args.limit c.loop-token.depth after in
-    record { gives = opened c.args.limit c.loop-token.depth after _ c.if-depth-limit.false (step ∙ so_far); }
+    record { gives = opened c.args.limit c.loop-token.depth after _ c.if-depth-limit.false (step ∙ so_far) }
 
 pub loop-token-preserved-in-Closes : goal.loop-token-preserved-in-Closes
 loop-token-preserved-in-Closes c =
     let so_far = rw c.in-Some.ensures.cases.0 at c.loop-token.invariant.gives in
     let after = map spelled c.in-Some.after.now in
     let step = c.in-Closes.ensures c.args.limit c.loop-token.depth after in
-    record { gives = closed c.args.limit c.loop-token.depth after _ (omega (arith, c.if-depth-eq0.false)) (step ∙ so_far); }
+    record { gives = closed c.args.limit c.loop-token.depth after _ (omega (arith, c.if-depth-eq0.false)) (step ∙ so_far) }
 
 pub loop-token-preserved-in-Indexes : goal.loop-token-preserved-in-Indexes
 loop-token-preserved-in-Indexes c =

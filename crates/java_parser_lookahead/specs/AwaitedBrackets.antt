@@ -1,10 +1,10 @@
 -- A contract of a public call rests on this: the brackets of the code that are still to be closed.
 use Rattle.std.specs.Prelude.{ℕ, List, [], ◌∷◌, Option, Some, None, codes}
 use Rattle.java_tree.specs.declared.words.Spelled.{Spelled}
-use Rattle.java_parser_types.specs.declared.brackets.Bracket.{Bracket}
-use Rattle.java_parser_types.specs.declared.brackets.Bracket.TheVariants as bracket
-use Rattle.java_parser_types.specs.declared.brackets.BracketStep.{BracketStep}
-use Rattle.java_parser_types.specs.declared.brackets.BracketStep.TheVariants as step
+use Rattle.java_parser_lookahead.specs.declared.brackets.Bracket.{Bracket}
+use Rattle.java_parser_lookahead.specs.declared.brackets.Bracket.TheVariants as bracket
+use Rattle.java_parser_lookahead.specs.declared.brackets.BracketStep.{BracketStep}
+use Rattle.java_parser_lookahead.specs.declared.brackets.BracketStep.TheVariants as step
 
 -- the sign that closes it
 abbrev pub closing : Bracket → List ℕ

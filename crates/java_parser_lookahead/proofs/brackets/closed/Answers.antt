@@ -5,13 +5,13 @@ use Rattle.java_tree.specs.KeptPlaces.{kept}
 use Rattle.java_tree.specs.KeptPlaces.{no_place}
 use Rattle.java_parser_types.proofs.LedMarks.{one_led, token_led}
 use Rattle.java_parser_grammar.specs.BalancedReading.{closed_at}
-use Rattle.java_parser_types.specs.AwaitedBrackets.{closing, awaited_onto}
+use Rattle.java_parser_lookahead.specs.AwaitedBrackets.{closing, awaited_onto}
 use Rattle.java_parser_types.specs.Tokens.{spelled}
 use Rattle.java_parser_types.specs.Finishing.{finished}
 use Rattle.java_parser_types.specs.Endings.{as_they_are}
-use Rattle.java_parser_types.proofs.BracketLoops.{awaited_push, closed_goes_on, closed_fails, closed_lacks}
-use Rattle.java_parser_types.proofs.BracketLoops.{closed_ends}
-use Rattle.java_parser_types.proofs.brackets.closed.Goals as goal
+use Rattle.java_parser_lookahead.proofs.BracketLoops.{awaited_push, closed_goes_on, closed_fails, closed_lacks}
+use Rattle.java_parser_lookahead.proofs.BracketLoops.{closed_ends}
+use Rattle.java_parser_lookahead.proofs.brackets.closed.Goals as goal
 
 pub returns-in_err-next-clause-gives : goal.returns-in_err-next-clause-gives
 returns-in_err-next-clause-gives c =

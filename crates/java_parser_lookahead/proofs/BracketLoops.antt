@@ -4,9 +4,9 @@ use Rattle.java_tree.specs.declared.words.Spelled.{Spelled}
 use Rattle.java_tree.specs.Brackets.{awaited_behind}
 use Rattle.java_parser_types.specs.declared.error.ReadError.{ReadError}
 use Rattle.java_parser_types.specs.declared.error.ReadError.TheVariants.{Memory, Unformed}
-use Rattle.java_parser_types.specs.declared.brackets.Bracket.{Bracket}
+use Rattle.java_parser_lookahead.specs.declared.brackets.Bracket.{Bracket}
 use Rattle.java_parser_grammar.specs.BalancedReading.{closed_at}
-use Rattle.java_parser_types.specs.AwaitedBrackets.{closing, awaited_onto, first_at}
+use Rattle.java_parser_lookahead.specs.AwaitedBrackets.{closing, awaited_onto, first_at}
 use Rattle.java_parser_types.specs.Finishing.{finished}
 use Rattle.java_parser_types.specs.Endings.{as_they_are}
 use Rattle.java_parser_types.specs.ReadAnswer.{Fails}

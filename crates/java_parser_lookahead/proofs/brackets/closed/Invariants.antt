@@ -3,11 +3,11 @@ use Rattle.java_tree.specs.KeptPlaces.{Places, kept}
 use Rattle.java_tree.specs.KeptPlaces.{each_marks, no_place}
 use Rattle.java_parser_types.specs.LedPlaces.{Leads}
 use Rattle.java_parser_grammar.specs.BalancedReading.{closed_at}
-use Rattle.java_parser_types.specs.AwaitedBrackets.{closing, awaited_onto}
+use Rattle.java_parser_lookahead.specs.AwaitedBrackets.{closing, awaited_onto}
 use Rattle.java_parser_types.specs.Tokens.{spelled}
 use Rattle.java_parser_types.specs.Finishing.{finished}
 use Rattle.java_parser_types.specs.Endings.{as_they_are}
-use Rattle.java_parser_types.proofs.brackets.closed.Given as goal
+use Rattle.java_parser_lookahead.proofs.brackets.closed.Given as goal
 
 abbrev pub invariant-loop-inner : goal.invariant-loop-inner
 invariant-loop-inner l = record {

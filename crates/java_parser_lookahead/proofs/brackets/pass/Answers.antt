@@ -1,7 +1,7 @@
 use Rattle.std.proofs.Common.{[], sym}
-use Rattle.java_parser_types.specs.AwaitedBrackets.{awaited_onto}
-use Rattle.java_parser_types.proofs.BracketLoops.{awaited_push, awaited_push_two}
-use Rattle.java_parser_types.proofs.brackets.pass.Goals as goal
+use Rattle.java_parser_lookahead.specs.AwaitedBrackets.{awaited_onto}
+use Rattle.java_parser_lookahead.proofs.BracketLoops.{awaited_push, awaited_push_two}
+use Rattle.java_parser_lookahead.proofs.brackets.pass.Goals as goal
 
 pub returns-in_ok-push-in-Opens-2 : goal.returns-in_ok-push-in-Opens-2
 returns-in_ok-push-in-Opens-2 c =

@@ -3,16 +3,16 @@ ghost use Rattle.std.specs.Prelude.{◌≡◌, ◌<◌, ◌≤◌, [], ◌∷◌
 ghost use Rattle.java_tree.specs.Brackets.{awaited_behind, is_closing};
 ghost use Rattle.java_tree.specs.KeptPlaces.{Places, kept, no_place, no_places};
 ghost use Rattle.java_parser_grammar.specs.BalancedReading.{closed_at, between_at, braces_tokens_at};
-ghost use Rattle.java_parser_types.specs.AwaitedBrackets.{closing, awaited_onto, stepped, first_at};
+ghost use Rattle.java_parser_lookahead.specs.AwaitedBrackets.{closing, awaited_onto, stepped, first_at};
 ghost use Rattle.java_parser_types.specs.Endings.{as_they_are};
 ghost use Rattle.java_parser_types.specs.Finishing.{finished};
 ghost use Rattle.java_parser_types.specs.LedPlaces.{Leads};
 ghost use Rattle.java_parser_types.specs.ReadAnswer.{Gives};
 ghost use Rattle.java_parser_types.specs.Tokens.{spelled};
 
-use super::error::ReadError;
-use super::look::is_sign;
 use java_lexer::Token;
+use java_parser_types::error::ReadError;
+use java_parser_types::look::is_sign;
 use java_tree::Spelled;
 use racer_base::Text;
 use std::alloc::Global;
