@@ -1,4 +1,4 @@
--- No public contract rests on this: what is read where a lambda may stand beside other expressions (JLS 15.27).
+-- A contract of a public call rests on this: what is read where a lambda may stand beside other expressions (JLS 15.27).
 use Rattle.std.specs.Prelude.{ℕ, List}
 use Rattle.java_tree.specs.declared.words.Spelled.{Spelled}
 use Rattle.java_parser_grammar.specs.ExpressionReading.{lambda_level}

@@ -1,4 +1,5 @@
-//! What the next tokens begin, and what may stand where: choices that are made before a tree of Java is read.
+//! What the next tokens begin, what may stand where, and what stands in brackets: what is known of tokens before a
+//! tree of Java is read.
 #![tactic(auto)]
 
 pub mod brackets;

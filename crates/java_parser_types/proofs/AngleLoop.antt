@@ -30,8 +30,11 @@ pub bracketed : (l d : ℕ) (ts rest : List Spelled) (total : Bool) → after_si
     → closes_bracket l d ts ≡ total → closes_angle l d rest ≡ total
 bracketed l d [] rest total behind e = absurd cc
 bracketed l d (t ∷ ts) rest total behind e =
-    (elim (is_sign (codes "]") t) as (λ b. (if b then Some ts else None) ≡ Some rest → (b && closes_angle l d ts) ≡ total
-    → closes_angle l d rest ≡ total) [ true ↦ λ s k. let same : rest ≡ ts = cc in rw same k | false ↦ λ s k. absurd cc ]) behind e
+    by_sign (is_sign (codes "]") t) behind e where
+      by_sign : (b : Bool) → (if b then Some ts else None) ≡ Some rest → (b && closes_angle l d ts) ≡ total
+          → closes_angle l d rest ≡ total
+      by_sign true s k = let same : rest ≡ ts = cc in rw same k
+      by_sign false s k = absurd cc
 
 -- no sign among type arguments is longer than a byte
 pub other_sign : (text : List ℕ) → (length text ≡ 1 → ⊥) → Steps (sign text) step.Ends

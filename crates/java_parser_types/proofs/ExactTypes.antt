@@ -155,7 +155,8 @@ module _ (read : List Spelled → Option (Ty × List Spelled)) (lacks : Lacks re
   commas_exact (suc m) ts = by_comma (λ us. commas_exact m us) (after_sign (codes ",") ts) where
     by_comma : ((us : List Spelled) → commas (argument_with read) m us >>= exactly ≡ behind_each (codes ",") read m us
         >>= as_given) → (o : Option (List Spelled)) → match_option o (exact_none ts)
-        (λ r. argument_with read r >>= λ f. commas (argument_with read) m f.1 >>= before f.0) >>= exactly ≡ match_option o (types_none ts)
+        (λ r. argument_with read r >>= λ f. commas (argument_with read) m f.1 >>= before f.0) >>= exactly
+        ≡ match_option o (types_none ts)
         (λ r. read r >>= λ f. behind_each (codes ",") read m f.1 >>= type_before f.0) >>= as_given
     by_comma same None = refl
     by_comma same (Some r) =

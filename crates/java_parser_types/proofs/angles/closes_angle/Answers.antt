@@ -1,4 +1,4 @@
-use Rattle.std.proofs.Common.{map, ◌∙◌, arith}
+use Rattle.std.proofs.Common.{map, ◌<◌, ◌∙◌, arith}
 use Rattle.java_parser_types.specs.Tokens.{spelled}
 use Rattle.java_parser_types.proofs.AngleLoop.{opened, closed, bracketed}
 use Rattle.java_parser_types.proofs.angles.closes_angle.Goals as goal
@@ -15,7 +15,8 @@ loop-token-preserved-in-Closes c =
     let so_far = rw c.in-Some.ensures.cases.0 at c.loop-token.invariant.gives in
     let after = map spelled c.in-Some.after.now in
     let step = c.in-Closes.ensures c.args.limit c.loop-token.depth after in
-    record { gives = closed c.args.limit c.loop-token.depth after _ (omega (arith, c.if-depth-eq0.false)) (step ∙ so_far) }
+    let inside : 0 < c.loop-token.depth = omega (arith, c.if-depth-eq0.false) in
+    record { gives = closed c.args.limit c.loop-token.depth after _ inside (step ∙ so_far) }
 
 pub loop-token-preserved-in-Indexes : goal.loop-token-preserved-in-Indexes
 loop-token-preserved-in-Indexes c =
