@@ -7,6 +7,7 @@ ghost use Rattle.java_resolver.specs.Meanings.{field_named, found, variable_name
 ghost use Rattle.java_resolver.specs.TypeKinds.{class_seen};
 ghost use Rattle.core_lowering_rules.specs.Context.{Code, op, converted, push_this, push_owner, meaning_of};
 ghost use Rattle.core_lowering_rules.specs.Context.{type_kind, variable_kind_in, is_analysed};
+ghost use Rattle.core_lowering_rules.specs.Expressions.{is_own_class};
 ghost use Rattle.core_lowering_rules.specs.Methods.{outside_methods};
 ghost use Rattle.core_lowering_rules.specs.Assignments.{field_at};
 ghost use Rattle.core_lowering_rules.specs.Calls.{info_at};
@@ -31,9 +32,9 @@ use std::alloc::Global;
 use std::marker::Model;
 
 /// The folder and why its methods are not analysed; of the method its place, what it gives, its class, whether it is
-/// static and which names mean no class in it; the variables in scope; the kinds of all variables so far; how many exits are open; the labels of the
-/// statement that comes, where jumps and where returns lead, the innermost last; whether a lock so far is that of no
-/// lock field, and whether something so far sets the method apart.
+/// static and which names mean no class in it; the variables in scope; the kinds of all variables so far; how many
+/// exits are open; the labels of the statement that comes, where jumps and where returns lead, the innermost last;
+/// whether a lock so far is that of no lock field, and whether something so far sets the method apart.
 #[derive(Drop)]
 pub struct Context<'a> {
     table: &'a Table,
@@ -178,6 +179,16 @@ impl<'a> Context<'a> {
         self.class
     }
 
+    /// Whether this is the class of the method.
+    pub fn is_own_class(&self, class: Option<ClassId>) -> bool
+        ensures { result ≡ is_own_class self.now class }
+    {
+        match class {
+            Some(c) => c == self.class,
+            None => false,
+        }
+    }
+
     pub fn is_static(&self) -> bool
         ensures { result ≡ self.now.scope.is_static }
     {
@@ -279,7 +290,8 @@ impl<'a> Context<'a> {
 
     /// What a value goes through on its way to a kind.
     pub fn convert(&self, draft: &mut Making, kind: Kind, given: ValueKind) -> Result<(), Memory>
-        ensures code { OnOk result (code_of draft.new ≡ code_of draft.old ++ converted self.now kind (value_kind given)) }
+        ensures code { OnOk result (code_of draft.new ≡ code_of draft.old
+            ++ converted self.now kind (value_kind given)) }
         ensures err { OnErr result (code_of draft.new ≡ code_of draft.old) }
     {
         if is_converted(kind, given) {

@@ -7,7 +7,7 @@ ghost use Rattle.core_lowering_rules.specs.ValueKinds.{Of};
 ghost use Rattle.core_lowering_rules.specs.Expressions.{class_meant, class_before, class_written, class_object};
 ghost use Rattle.core_lowering_rules.specs.Expressions.{this_object};
 ghost use Rattle.core_lowering_rules.specs.Trees.{Unknown};
-ghost use Rattle.core_lowering_rules.specs.Expressions.{this_kind, is_own_class, this_object_of, this_kind_of};
+ghost use Rattle.core_lowering_rules.specs.Expressions.{this_kind, this_object_of, this_kind_of};
 ghost use Rattle.core_lowering_rules.specs.Expressions.{is_value, is_evaluated, code};
 ghost use Rattle.core_lowering_context.specs.Drafts.{code_of};
 ghost use Rattle.core_lowering_context.specs.Views.{value_kind};
@@ -79,16 +79,6 @@ pub fn this_object(context: &Context, draft: &mut Making) -> Result<ValueKind, M
     )
 }
 
-/// Whether names are that of the class of the method.
-fn is_own_class(context: &Context, names: &[Ident]) -> bool
-    ensures { result ≡ is_own_class context.now (class_written context.now names.now) }
-{
-    match class_written(context, names) {
-        Some(c) => c == context.class(),
-        None => false,
-    }
-}
-
 /// Where nothing is known of a value.
 pub fn unknown(context: &Context, draft: &mut Making) -> Result<ValueKind, Memory>
     ensures code { OnOk result (code_of draft.new ≡ code_of draft.old ++ code context.now Unknown) }
@@ -106,7 +96,7 @@ pub fn this_object_of(
     ensures code { OnOk result (code_of draft.new ≡ code_of draft.old ++ this_object_of context.now names.now) }
     ensures kind { IfOk result (λ k. value_kind k ≡ this_kind_of context.now names.now) }
 {
-    if is_own_class(context, names) {
+    if context.is_own_class(class_written(context, names)) {
         return this_object(context, draft);
     }
     unknown(context, draft)
