@@ -1,5 +1,5 @@
 -- No public contract rests on this: method references and class literals, by what stands in front.
-use Rattle.std.specs.Prelude.{ℕ, List}
+use Rattle.std.specs.Prelude.{ℕ}
 use Rattle.java_tree.specs.Trees.{Expr}
 use Rattle.java_parser_grammar.specs.Taking.{◌>>=◌}
 use Rattle.java_parser_grammar.specs.TypeReading.{ty_at}

@@ -1,5 +1,5 @@
 -- The arguments of a call.
-use Rattle.std.proofs.Common.{◌≡◌, [], ◌∷◌, ◌++◌, map, refl, arith, length, ◌-◌, ◌+◌}
+use Rattle.std.proofs.Common.{◌≡◌, [], ◌∷◌, ◌++◌, map, refl, arith, length, ◌-◌}
 use Rattle.std.proofs.lemmas.List.{map_push}
 use Rattle.std.proofs.lemmas.Result.{err_from_is_err_and}
 use Rattle.java_tree.specs.KeptPlaces.{kept, expr_places}

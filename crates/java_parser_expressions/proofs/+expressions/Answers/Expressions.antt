@@ -1,6 +1,5 @@
 -- A lambda or an operand, and what is made of an expression and what stands behind it.
 use Rattle.std.proofs.Common.{◌≡◌, [], ◌∷◌, ◌∙◌, map, refl, arith, sym, suc, ◌-◌, false, codes, rules, ◌+◌}
-use Rattle.std.proofs.Common.{if◌then◌else◌}
 use Rattle.std.proofs.lemmas.Result.{err_from_is_err_and}
 use Rattle.java_tree.specs.KeptPlaces.{kept, each_puts, types_places, name_places, expr_places}
 use Rattle.java_tree.specs.Operators.{assignment_level, conditional_level}

@@ -1,5 +1,5 @@
 -- An expression with no expression at its left.
-use Rattle.std.proofs.Common.{◌≡◌, [], ◌∷◌, ◌∙◌, Some, map, refl, ap, arith, sym, subst, suc, length, IfOk, ◌-◌}
+use Rattle.std.proofs.Common.{◌≡◌, [], ◌∷◌, ◌∙◌, Some, map, refl, ap, arith, sym, subst, suc, length, IfOk}
 use Rattle.std.proofs.Common.{true, false, codes, rules, if◌then◌else◌, ◌||◌}
 use Rattle.std.proofs.lemmas.Result.{err_from_is_err_and}
 use Rattle.std.specs.Prelude.{bytes_eq}

@@ -1,5 +1,5 @@
 -- Array initialisers, and what a variable begins with.
-use Rattle.std.proofs.Common.{◌≡◌, [], ◌∷◌, ◌++◌, map, refl, arith, length, ◌-◌, codes, rules, ◌+◌}
+use Rattle.std.proofs.Common.{◌≡◌, [], ◌∷◌, ◌++◌, map, refl, arith, length, ◌-◌, codes, rules}
 use Rattle.std.proofs.lemmas.List.{map_push}
 use Rattle.std.proofs.lemmas.Result.{err_from_is_err_and}
 use Rattle.java_tree.specs.KeptPlaces.{kept, init_places}

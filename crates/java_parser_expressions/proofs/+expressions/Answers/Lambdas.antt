@@ -1,5 +1,5 @@
 -- Lambdas.
-use Rattle.std.proofs.Common.{◌≡◌, ◌∙◌, map, refl, arith, ◌-◌, true, false, codes, rules}
+use Rattle.std.proofs.Common.{◌≡◌, ◌∙◌, map, refl, arith, true, false, codes, rules}
 use Rattle.std.proofs.lemmas.Result.{err_from_is_err_and}
 use Rattle.java_tree.specs.KeptPlaces.{kept, no_places, expr_places}
 use Rattle.java_tree.specs.Operators.{assignment_level}
