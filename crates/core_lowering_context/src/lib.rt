@@ -7,9 +7,10 @@
 //! A `Making` is seen as its parts: each function that adds to it has one clause on plain lists, and positions count
 //! parts. A change that may fail half way takes all out and puts it back, so that the empty draft is left after a
 //! fault. Names of variables are looked up in an index, the innermost last. Which locks are those of lock fields, and
-//! where jumps lead, the context alone says, so it is here.
+//! where jumps lead, the context alone says, so it is here; so is which arguments no parameter takes.
 #![tactic(auto)]
 
+mod arguments;
 mod around;
 mod by_name;
 mod context;
@@ -24,6 +25,7 @@ mod targets;
 mod value_kind;
 mod variables;
 
+pub use arguments::further_arguments;
 pub use context::Context;
 pub use entered::{enter, enter_spelled};
 pub use given::MethodResult;

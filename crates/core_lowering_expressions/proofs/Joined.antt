@@ -1,18 +1,20 @@
 -- Code that grew by one piece after another.
 use Rattle.std.proofs.Common.{◌≡◌, ℕ, zero, suc, ◌+◌, ◌<◌, ◌≤◌, List, [], ◌∷◌, ◌++◌, length, map, drop, take}
-use Rattle.std.proofs.Common.{get_or, refl, sym, ap, ◌∙◌, append_assoc, arith}
+use Rattle.std.proofs.Common.{get_or, refl, sym, ap, ◌∙◌, append_assoc, arith, ◌⊎◌, inl, inr}
+use Rattle.std.specs.Prelude.{min}
+use Rattle.std.proofs.lemmas.Bool.{cases_lt}
 use Rattle.std.proofs.lemmas.List.{append-nil, drop_more, drop_all}
 use Rattle.std.proofs.Math.Seq.{take-append_seam, drop-append_seam}
 use Rattle.std.specs.List.{flat_map}
+use denote.Param.Weighed.{most}
 use Rattle.racer_base.specs.declared.ids.Kind.{Kind}
 use Rattle.java_tree.specs.declared.expressions.Expression.{Expression}
 use Rattle.java_tree.specs.declared.expressions.Initialiser.{Initialiser}
 use Rattle.core_lowering_rules.specs.Trees.{Expr, Exprs, no_expr, expr_then, pack_exprs, pack_inits}
 use Rattle.core_lowering_rules.specs.TreesOf.{expr_of, init_of}
 use Rattle.core_lowering_rules.specs.ValueKinds.{ValueKind}
-use Rattle.core_lowering_rules.specs.Context.{Context, Code, choice}
+use Rattle.core_lowering_rules.specs.Context.{Context, Code, choice, converted}
 use Rattle.core_lowering_rules.specs.Expressions.{code, kind, passed, init_code, items_code}
-use Rattle.core_lowering_expressions.specs.Parts.{converted_first}
 
 -- ---- pieces
 
@@ -25,44 +27,50 @@ three start one second third a b c p q r = two start second third (a ++ b) c (tw
 
 -- ---- arguments
 
-abbrev first-rest : List Kind → List Kind
-first-rest [] = []
-first-rest (k ∷ kinds) = kinds
-
-rest-drop : (i : ℕ) (kinds : List Kind) → first-rest (drop i kinds) ≡ drop (suc i) kinds
-rest-drop zero [] = refl
-rest-drop zero (k ∷ kinds) = refl
-rest-drop (suc i) [] = refl
-rest-drop (suc i) (k ∷ kinds) = rest-drop i kinds
-
-passed-next : (context : Context) (kinds : List Kind) (e : Expr) (es : Exprs) →
-    passed context kinds (expr_then e es)
-    ≡ code context e ++ converted_first context kinds (kind context e) ++ passed context (first-rest kinds) es
-passed-next context [] e es = ap (λ x. x ++ passed context [] es) (sym (append-nil (code context e)))
-passed-next context (k ∷ kinds) e es = refl
-
--- one argument more
-pub arguments-next : (context : Context) (kinds : List Kind) (all : List Expression) (i : ℕ) (e : Expression)
-    (old one second whole : Code) (given : ValueKind) → i < length all → e ≡ get_or all i e →
-    one ≡ old ++ code context (expr_of e) → given ≡ kind context (expr_of e) →
-    second ≡ one ++ converted_first context (drop i kinds) given →
-    old ++ passed context (drop i kinds) (pack_exprs (map expr_of (drop i all))) ≡ whole →
-    second ++ passed context (drop (i + 1) kinds) (pack_exprs (map expr_of (drop (i + 1) all))) ≡ whole
-arguments-next context kinds all i e old one second whole given within is p k q h =
-    let es = pack_exprs (map expr_of (drop (i + 1) all)) in
-    let ks = drop i kinds in
+-- one value more
+pub values-next : (context : Context) (all : List Expression) (i : ℕ) (e : Expression) (old one whole : Code) →
+    i < length all → e ≡ get_or all i e → one ≡ old ++ code context (expr_of e) →
+    old ++ passed context [] (pack_exprs (map expr_of (drop i all))) ≡ whole →
+    one ++ passed context [] (pack_exprs (map expr_of (drop (i + 1) all))) ≡ whole
+values-next context all i e old one whole within is p h =
+    let rest = passed context [] (pack_exprs (map expr_of (drop (i + 1) all))) in
     let left : drop i all ≡ e ∷ drop (i + 1) all =
     drop_more all i e within ∙ ap (λ x. x ∷ drop (i + 1) all) (sym is) in
-    let more : i + 1 ≡ suc i = omega arith in
-    let piece = code context (expr_of e) ++ converted_first context ks (kind context (expr_of e)) in
+    ap (λ x. x ++ rest) p ∙ append_assoc old (code context (expr_of e)) rest
+    ∙ ap (λ xs. old ++ passed context [] (pack_exprs (map expr_of xs))) (sym left) ∙ h
+
+passed-next : (context : Context) (k : Kind) (kinds : List Kind) (e : Expr) (es : Exprs) →
+    passed context (k ∷ kinds) (expr_then e es)
+    ≡ code context e ++ converted context k (kind context e) ++ passed context kinds es
+passed-next context k kinds e es = refl
+
+next-passed : (context : Context) (kinds left : List Kind) (k : Kind) (e : Expr) (es : Exprs) → kinds ≡ k ∷ left →
+    code context e ++ converted context k (kind context e) ++ passed context left es
+    ≡ passed context kinds (expr_then e es)
+next-passed context kinds left k e es is =
+    sym (ap (λ ks. passed context ks (expr_then e es)) is ∙ passed-next context k left e es)
+
+-- one argument more, which is converted
+pub arguments-next : (context : Context) (kinds : List Kind) (all : List Expression) (i : ℕ) (e : Expression) (k : Kind)
+    (old one second whole : Code) (given : ValueKind) → i < length all → i < length kinds → e ≡ get_or all i e →
+    k ≡ get_or kinds i k → one ≡ old ++ code context (expr_of e) → given ≡ kind context (expr_of e) →
+    second ≡ one ++ converted context k given →
+    old ++ passed context (drop i kinds) (pack_exprs (map expr_of (drop i all))) ≡ whole →
+    second ++ passed context (drop (i + 1) kinds) (pack_exprs (map expr_of (drop (i + 1) all))) ≡ whole
+arguments-next context kinds all i e k old one second whole given within known is same p kinds-are q h =
+    let ks = drop (i + 1) kinds in
+    let es = pack_exprs (map expr_of (drop (i + 1) all)) in
+    let left : drop i all ≡ e ∷ drop (i + 1) all =
+    drop_more all i e within ∙ ap (λ x. x ∷ drop (i + 1) all) (sym is) in
+    let left-kinds : drop i kinds ≡ k ∷ ks = drop_more kinds i k known ∙ ap (λ x. x ∷ ks) (sym same) in
+    let end = converted context k (kind context (expr_of e)) in
+    let piece = code context (expr_of e) ++ end in
     let grown : second ≡ old ++ piece =
-    two old one second (code context (expr_of e)) (converted_first context ks (kind context (expr_of e))) p
-    (q ∙ ap (λ g. one ++ converted_first context ks g) k) in
-    ap (λ x. x ++ passed context (drop (i + 1) kinds) es) grown
-    ∙ append_assoc old piece (passed context (drop (i + 1) kinds) es)
-    ∙ ap (λ r. old ++ (piece ++ passed context r es)) (ap (λ n. drop n kinds) more ∙ sym (rest-drop i kinds))
-    ∙ ap (λ x. old ++ x) (sym (passed-next context ks (expr_of e) es))
-    ∙ ap (λ xs. old ++ passed context ks (pack_exprs (map expr_of xs))) (sym left)
+    two old one second (code context (expr_of e)) end p (q ∙ ap (λ g. one ++ converted context k g) kinds-are) in
+    ap (λ x. x ++ passed context ks es) grown
+    ∙ append_assoc old piece (passed context ks es)
+    ∙ ap (λ x. old ++ x) (next-passed context (drop i kinds) ks k (expr_of e) es left-kinds)
+    ∙ ap (λ xs. old ++ passed context (drop i kinds) (pack_exprs (map expr_of xs))) (sym left)
     ∙ h
 
 -- one item more
@@ -77,18 +85,53 @@ items-next context all i item old one whole within is p h =
     ap (λ x. x ++ rest) p ∙ append_assoc old (init_code context (init_of item)) rest
     ∙ ap (λ xs. old ++ items_code context (pack_inits (map init_of xs))) (sym left) ∙ h
 
-nothing-passed : (context : Context) (kinds : List Kind) (old : Code) → old ++ passed context kinds no_expr ≡ old
-nothing-passed context [] old = append-nil old
-nothing-passed context (k ∷ kinds) old = append-nil old
+nothing-passed : (context : Context) (kinds : List Kind) → passed context kinds no_expr ≡ []
+nothing-passed context [] = refl
+nothing-passed context (k ∷ kinds) = refl
 
--- nothing is left
-pub arguments-done : (context : Context) (kinds : List Kind) (all : List Expression) (old whole : Code) (i : ℕ) →
-    length all ≤ i →
-    old ++ passed context (drop i kinds) (pack_exprs (map expr_of (drop i all))) ≡ whole → old ≡ whole
-arguments-done context kinds all old whole i past h =
-    let none : drop i all ≡ [] = drop_all i all past in
-    sym (ap (λ xs. old ++ passed context (drop i kinds) (pack_exprs (map expr_of xs))) none
-    ∙ nothing-passed context (drop i kinds) old) ∙ h
+-- behind the last value
+pub values-done : (context : Context) (all : List Expression) (old whole : Code) (i : ℕ) → length all ≤ i →
+    old ++ passed context [] (pack_exprs (map expr_of (drop i all))) ≡ whole → old ≡ whole
+values-done context all old whole i past h =
+    sym (ap (λ xs. old ++ passed context [] (pack_exprs (map expr_of xs))) (drop_all i all past) ∙ append-nil old) ∙ h
+
+-- what is left where the arguments or the kinds end is converted to nothing
+left-passed : (context : Context) (kinds : List Kind) (all : List Expression) (i : ℕ) →
+    i ≡ min (length all) (length kinds) →
+    passed context (drop i kinds) (pack_exprs (map expr_of (drop i all)))
+    ≡ passed context [] (pack_exprs (map expr_of (drop (length kinds) all)))
+left-passed context kinds all i end = by (cases_lt (length all) (length kinds))
+  where
+    by : (length all < length kinds) ⊎ (length kinds ≤ length all) →
+        passed context (drop i kinds) (pack_exprs (map expr_of (drop i all)))
+        ≡ passed context [] (pack_exprs (map expr_of (drop (length kinds) all)))
+    by (inl fewer) =
+        ap (λ xs. passed context (drop i kinds) (pack_exprs (map expr_of xs)))
+        (drop_all i all (omega (arith, end, fewer)))
+        ∙ nothing-passed context (drop i kinds)
+        ∙ ap (λ xs. passed context [] (pack_exprs (map expr_of xs)))
+        (sym (drop_all (length kinds) all (omega (arith, fewer))))
+    by (inr more) =
+        let at : i ≡ length kinds = omega (arith, end, more) in
+        ap (λ ks. passed context ks (pack_exprs (map expr_of (drop i all))))
+        (drop_all i kinds (omega (arith, at)))
+        ∙ ap (λ n. passed context [] (pack_exprs (map expr_of (drop n all)))) at
+
+-- behind the further arguments
+pub arguments-done : (context : Context) (kinds : List Kind) (all further : List Expression) (old last whole : Code)
+    (i : ℕ) → i ≡ min (length all) (length kinds) → further ≡ drop (length kinds) all →
+    last ≡ old ++ passed context [] (pack_exprs (map expr_of further)) →
+    old ++ passed context (drop i kinds) (pack_exprs (map expr_of (drop i all))) ≡ whole → last ≡ whole
+arguments-done context kinds all further old last whole i end are p h =
+    p ∙ ap (λ xs. old ++ passed context [] (pack_exprs (map expr_of xs))) are
+    ∙ ap (λ x. old ++ x) (sym (left-passed context kinds all i end)) ∙ h
+
+-- what is left of a list is no larger
+pub most-drop : {A : Type 0} (size : A → ℕ) (n : ℕ) (xs : List A) → most size (drop n xs) ≤ most size xs
+most-drop size zero xs = omega arith
+most-drop size (suc n) [] = omega arith
+most-drop size (suc n) (x ∷ xs) =
+    let rest : most size (drop n xs) ≤ most size xs = most-drop size n xs in omega arith
 
 -- ---- choices
 

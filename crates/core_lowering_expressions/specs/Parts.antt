@@ -1,5 +1,5 @@
 -- A contract of a public call rests on this: the code of accesses and calls in the parts in which it is made.
-use Rattle.std.specs.Prelude.{ℕ, suc, true, false, List, [], ◌∷◌, ◌++◌, Option, Some, None, option_map}
+use Rattle.std.specs.Prelude.{ℕ, suc, true, false, List, [], ◌++◌, Option, Some, None, option_map}
 use Rattle.racer_base.specs.declared.ids.ClassId.{ClassId}
 use Rattle.racer_base.specs.declared.ids.MethodId.{MethodId}
 use Rattle.racer_base.specs.declared.ids.Kind.{Kind}
@@ -120,13 +120,6 @@ made_kinds context (Some made) n = parameter_kinds context made.1 n
 abbrev pub made_end : Context → Place → ℕ → Option (ClassId × MethodId) → Code
 made_end context place n None = op_at place (Outside n)
 made_end context place n (Some made) = call_at context place made.1 true n
-
--- ---- arguments
-
--- a value on its way to the first of these kinds, if there is one
-abbrev pub converted_first : Context → List Kind → ValueKind → Code
-converted_first context [] given = []
-converted_first context (kind ∷ kinds) given = converted context kind given
 
 -- C.f(..)
 abbrev pub class_callee : Context → ClassId → Ident → Exprs → Callee

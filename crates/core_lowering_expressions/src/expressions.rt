@@ -13,7 +13,7 @@ ghost use Rattle.core_lowering_context.specs.Views.{value_kind};
 ghost use Rattle.core_lowering_expressions.specs.Parts.{base_of, without_base};
 ghost use Rattle.core_lowering_expressions.specs.declared.storage.Storage.TheVariants.{Elsewhere as StoredElsewhere};
 
-use crate::invocations::{lower_arguments, lower_called, lower_made};
+use crate::invocations::{lower_called, lower_made, lower_values};
 use crate::names::{
     class_before, class_object, is_evaluated, this_object, this_object_of, unknown,
 };
@@ -293,7 +293,7 @@ pub(crate) fn lower_lengths(
         ++ code context.now (NewArray place (pack_exprs (map expr_of lengths.now)))) }
     ensures kind { IfOk result (λ k. value_kind k ≡ Of kinds.Other) }
 {
-    lower_arguments(alloc, context, lengths, &[], draft)?;
+    lower_values(alloc, context, lengths, draft)?;
     new_array(place, lengths.len(), draft)
 }
 

@@ -1,12 +1,11 @@
 //! The code of calls and object creations (JLS 15.9, 15.12).
-ghost use Rattle.std.specs.Prelude.{◌≡◌, ◌++◌, map, drop, OnOk, IfOk};
+ghost use Rattle.std.specs.Prelude.{◌≡◌, [], ◌++◌, map, OnOk, IfOk};
 ghost use Rattle.java_tree.specs.View.{ty_of};
 ghost use Rattle.core_lowering_rules.specs.Trees.{CallOn, New, NewBody, pack_exprs};
 ghost use Rattle.core_lowering_rules.specs.TreesOf.{expr_of, call_tree_of, new_tree_of};
 ghost use Rattle.core_lowering_rules.specs.Expressions.{code, kind, passed};
 ghost use Rattle.core_lowering_context.specs.Drafts.{code_of};
 ghost use Rattle.core_lowering_context.specs.Views.{value_kind};
-ghost use Rattle.core_lowering_expressions.specs.Parts.{converted_first};
 ghost use Rattle.core_lowering_expressions.specs.Together.{target_call, target_kind};
 
 use crate::calls::{
@@ -15,31 +14,31 @@ use crate::calls::{
 use crate::expressions::{lower_array, lower_expression, lower_lengths};
 use crate::names::class_before;
 use core_code::Op;
-use core_lowering_context::{Context, Making, ValueKind, number_of};
+use core_lowering_context::{Context, Making, ValueKind, further_arguments, number_of};
 use java_tree::{CallTree, Expression, Ident, Made, NewTree, TypeTree};
 use racer_base::{Kind, Memory, Place};
 use std::alloc::Global;
 
-/// What an argument goes through on its way to the kind with this index, if there is one.
-fn convert_at(
+/// Values that are converted to nothing, as lengths of arrays and arguments that no parameter takes alone.
+#[cycle(lower_expressions)]
+pub fn lower_values(
+    alloc: Global,
     context: &Context,
-    kinds: &[Kind],
-    index: usize,
-    given: ValueKind,
+    values: &[Expression],
     draft: &mut Making,
 ) -> Result<(), Memory>
     ensures { OnOk result (code_of draft.new ≡ code_of draft.old
-        ++ converted_first context.now (drop index kinds.now) (value_kind given)) }
+        ++ passed context.now [] (pack_exprs (map expr_of values.now))) }
 {
-    match kinds.get(index) {
-        Some(kind) => context.convert(draft, *kind, given),
-        None => Ok(()),
+    for value in values {
+        lower_expression(alloc, context, value, draft)?;
     }
+    Ok(())
 }
 
 /// Arguments, converted to kinds as far as these go.
 #[cycle(lower_expressions)]
-pub fn lower_arguments(
+fn lower_arguments(
     alloc: Global,
     context: &Context,
     arguments: &[Expression],
@@ -49,11 +48,12 @@ pub fn lower_arguments(
     ensures { OnOk result (code_of draft.new ≡ code_of draft.old
         ++ passed context.now kinds.now (pack_exprs (map expr_of arguments.now))) }
 {
-    for (index, argument) in arguments.iter().enumerate() {
+    for (argument, kind) in arguments.iter().zip(kinds) {
         let given = lower_expression(alloc, context, argument, draft)?;
-        convert_at(context, kinds, index, given, draft)?;
+        context.convert(draft, *kind, given)?;
     }
-    Ok(())
+    let further = further_arguments(arguments, kinds.len());
+    lower_values(alloc, context, further, draft)
 }
 
 /// A method, where this stands before its name.
@@ -143,7 +143,7 @@ fn lower_body(
     ensures kind { IfOk result (λ k. value_kind k ≡ kind context.now
         (NewBody place (ty_of t.now) (pack_exprs (map expr_of arguments.now)))) }
 {
-    lower_arguments(alloc, context, arguments, &[], draft)?;
+    lower_values(alloc, context, arguments, draft)?;
     let count = number_of(arguments.len())?;
     let kind = ValueKind::Of(context.type_kind(t));
     draft.value(place, Op::Outside(count), kind)

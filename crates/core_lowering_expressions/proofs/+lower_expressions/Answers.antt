@@ -1,7 +1,13 @@
-use Rattle.std.proofs.Common.{◌≡◌, OnOk, IfOk, subst, true, false, [], ◌++◌, map, ◌∙◌, ap, sym, refl, length, rules}
+use Rattle.std.proofs.Common.{◌≡◌, OnOk, IfOk, subst, true, false, [], ◌∷◌, ◌++◌, map, ◌∙◌, ap, sym, refl, length}
+use Rattle.std.proofs.Common.{rules, ℕ, ◌<◌, ◌≤◌, List, drop, get_or, length-append, arith}
+use denote.Param.Weighed.{most, at_most}
+use Rattle.std.specs.Prelude.{min}
+use Rattle.std.proofs.lemmas.Slice.Zip.{zip_end, zip_turn}
 use Rattle.std.proofs.lemmas.List.{append-nil}
 use Rattle.std.proofs.lemmas.Result.{on_ok_weaker, IfOk-weaker}
+use Rattle.racer_base.specs.declared.ids.Kind.{Kind}
 use Rattle.racer_base.specs.declared.ids.Kind.TheVariants.{Plain}
+use Rattle.java_tree.specs.declared.expressions.Expression.{Expression, size-Expression}
 use Rattle.java_tree.specs.declared.expressions.Expression.TheFolds.{the_lemmas}
 use Rattle.java_tree.specs.declared.expressions.Expression.{out-Expression}
 use Rattle.java_tree.specs.View.{ty_of}
@@ -12,7 +18,7 @@ use Rattle.core_lowering_rules.specs.TreesOf.{access_of, expr_of, is_assignment,
 use Rattle.core_lowering_rules.specs.TreesOf.{is_count, prefix, first_type}
 use Rattle.core_lowering_rules.specs.ValueKinds.{Of, common_kind}
 use Rattle.core_lowering_rules.specs.Context.{op, type_kind}
-use Rattle.core_lowering_rules.specs.Expressions.{code, init_code, init_kind, kind, cast, storage, access_kind}
+use Rattle.core_lowering_rules.specs.Expressions.{code, init_code, init_kind, kind, cast, storage, access_kind, passed}
 use Rattle.core_lowering_rules.specs.Assignments.{of_class, of_value}
 use Rattle.core_lowering_rules.specs.Calls.{result_kind}
 use Rattle.core_lowering_expressions.specs.declared.calls.Target.TheVariants as target
@@ -22,7 +28,8 @@ use Rattle.core_lowering_expressions.specs.Parts.{storage_kind, callee_seen, bas
 use Rattle.core_lowering_expressions.specs.Together.{target_kind}
 use Rattle.core_lowering_expressions.proofs.ExpressionForms.{is_name_of, is_field, is_index, is_value}
 use Rattle.core_lowering_expressions.proofs.OtherForms.{is_access, no-access}
-use Rattle.core_lowering_expressions.proofs.Joined.{two, arguments-next, arguments-done, items-next, items-done}
+use Rattle.core_lowering_expressions.proofs.Joined.{two, values-next, values-done, arguments-next, arguments-done}
+use Rattle.core_lowering_expressions.proofs.Joined.{items-next, items-done, most-drop}
 use Rattle.core_lowering_expressions.proofs.Made.{read-made, assign-made, assign-kind, counted-made, kind-made}
 use Rattle.core_lowering_expressions.proofs.Made.{prefix-code, prefix-kind, operator-made, operator-kind}
 use Rattle.core_lowering_expressions.proofs.Made.{selected-made, selected-same, class-selected, conditional-made}
@@ -96,18 +103,77 @@ expressions::lower_conditional-returns-clause-code t c =
     c.in_ok-second.ensures.code)
     c.end_conditional.ensures.code
 
-pub invocations::lower_arguments-loop-index-preserved : goal.invocations::lower_arguments-loop-index-preserved
-invocations::lower_arguments-loop-index-preserved t c =
-    arguments-next c.args.context.now c.args.kinds.now c.args.arguments.now c.loop-index.index
-    c.index-arguments-index.result (code_of c.loop-index.draft) (code_of c.lower_expression.new.draft)
-    (code_of c.convert_at.new.draft) _ (value_kind c.in_ok-given.given) c.loop-index-test.true
-    c.index-arguments-index.is c.in_ok-given.ensures.code c.in_ok-given.ensures.kind c.in_ok-convert_at.ensures
-    c.loop-index.invariant
+pub invocations::lower_values-loop-value-preserved : goal.invocations::lower_values-loop-value-preserved
+invocations::lower_values-loop-value-preserved t c =
+    values-next c.args.context.now c.args.values.now c.loop-value.value-index c.value-item.result
+    (code_of c.loop-value.draft) (code_of c.lower_expression.new.draft) _ c.loop-value-test.true c.value-item.is
+    c.in_ok-lower_expression.ensures.code c.loop-value.invariant
+
+pub invocations::lower_values-returns : goal.invocations::lower_values-returns
+invocations::lower_values-returns t c =
+    values-done c.args.context.now c.args.values.now (code_of c.loop-value.draft) _ c.loop-value.value-index
+    c.loop-value-test.false c.loop-value.invariant
+
+pub invocations::lower_arguments-loop-argument-preserved : goal.invocations::lower_arguments-loop-argument-preserved
+invocations::lower_arguments-loop-argument-preserved t c =
+    let arguments = c.args.arguments.now in
+    let kinds = c.args.kinds.now in
+    let context = c.args.context.now in
+    let i = length c.loop-argument.yielded in
+    let argument = c.in-Some.argument in
+    let kind = c.in-Some.kind in
+    let at : (i < length arguments) × (i < length kinds) × ((d : Expression) → argument.now ≡ get_or arguments i d)
+    × ((d : Kind) → kind.now ≡ get_or kinds i d) =
+    zip_turn arguments kinds c.loop-argument.yielded c.into_iter-argument-iterator.result
+    c.loop-argument.argument-iterator c.next.new.self c.next.result (search rules) (search rules)
+    c.loop-argument.yielded_by (argument, kind) c.in-Some.is c.next.ensures.steps in
+    subst (λ (n : ℕ). code_of c.convert.new.draft
+    ++ passed context (drop n kinds) (pack_exprs (map expr_of (drop n arguments)))
+    ≡ code_of c.args.draft.now ++ passed context kinds (pack_exprs (map expr_of arguments)))
+    (sym (length-append c.loop-argument.yielded ((argument, kind) ∷ [])))
+    (arguments-next context kinds arguments i argument.now kind.now (code_of c.loop-argument.draft)
+    (code_of c.lower_expression.new.draft) (code_of c.convert.new.draft) _ (value_kind c.in_ok-given.given) at.0 at.1
+    (at.2 argument.now) (at.3 kind.now) c.in_ok-given.ensures.code c.in_ok-given.ensures.kind
+    c.in_ok-convert.ensures.code c.loop-argument.invariant)
+
+pub invocations::lower_arguments-lower_expression-requires : goal.invocations::lower_arguments-lower_expression-requires
+invocations::lower_arguments-lower_expression-requires t c =
+    let arguments = c.args.arguments.now in
+    let kinds = c.args.kinds.now in
+    let i = length c.loop-argument.yielded in
+    let argument = c.in-Some.argument in
+    let at : (i < length arguments) × (i < length kinds) × ((d : Expression) → argument.now ≡ get_or arguments i d)
+    × ((d : Kind) → c.in-Some.kind.now ≡ get_or kinds i d) =
+    zip_turn arguments kinds c.loop-argument.yielded c.into_iter-argument-iterator.result
+    c.loop-argument.argument-iterator c.next.new.self c.next.result (search rules) (search rules)
+    c.loop-argument.yielded_by (argument, c.in-Some.kind) c.in-Some.is c.next.ensures.steps in
+    let within : size-Expression argument.now ≤ most size-Expression arguments =
+    subst (λ (e : Expression). size-Expression e ≤ most size-Expression arguments) (sym (at.2 argument.now))
+    (at_most size-Expression arguments i argument.now at.0) in
+    (omega (arith, within, c.decreases), tt)
+
+pub invocations::lower_arguments-lower_values-requires : goal.invocations::lower_arguments-lower_values-requires
+invocations::lower_arguments-lower_values-requires t c =
+    let arguments = c.args.arguments.now in
+    let further = c.further_arguments-further.result.now in
+    let within : most size-Expression further ≤ most size-Expression arguments =
+    subst (λ (es : List Expression). most size-Expression es ≤ most size-Expression arguments)
+    (sym c.further_arguments-further.ensures) (most-drop size-Expression (length c.args.kinds.now) arguments) in
+    (omega (arith, within, c.decreases), tt)
 
 pub invocations::lower_arguments-returns : goal.invocations::lower_arguments-returns
 invocations::lower_arguments-returns t c =
-    arguments-done c.args.context.now c.args.kinds.now c.args.arguments.now (code_of c.loop-index.draft) _
-    c.loop-index.index c.loop-index-test.false c.loop-index.invariant
+    let arguments = c.args.arguments.now in
+    let kinds = c.args.kinds.now in
+    let end : length c.loop-argument.yielded ≡ min (length arguments) (length kinds) =
+    zip_end arguments kinds c.loop-argument.yielded c.into_iter-argument-iterator.result
+    c.loop-argument.argument-iterator c.next.new.self c.next.result (search rules) (search rules)
+    c.loop-argument.yielded_by c.in-None.is c.next.ensures.steps in
+    on_ok_weaker c.lower_values.result
+    (λ made. arguments-done c.args.context.now kinds arguments c.further_arguments-further.result.now
+    (code_of c.loop-argument.draft) (code_of c.lower_values.new.draft) _ (length c.loop-argument.yielded) end
+    c.further_arguments-further.ensures made c.loop-argument.invariant)
+    c.lower_values.ensures
 
 pub invocations::lower_new-returns-clause-code : goal.invocations::lower_new-returns-clause-code
 invocations::lower_new-returns-clause-code t c =
@@ -125,8 +191,8 @@ expressions::lower_lengths-returns-clause-code t c =
     on_ok_weaker c.new_array.result
     (lengths-made c.args.context.now c.args.place c.args.lengths.now (length c.args.lengths.now) (code_of
     c.args.draft.now)
-    (code_of c.lower_arguments.new.draft) (code_of c.new_array.new.draft) refl
-    c.in_ok-lower_arguments.ensures)
+    (code_of c.lower_values.new.draft) (code_of c.new_array.new.draft) refl
+    c.in_ok-lower_values.ensures)
     c.new_array.ensures.code
 
 pub expressions::lower_selected-returns-in-Some-clause-code :
@@ -411,6 +477,6 @@ pub invocations::lower_body-returns-clause-code : goal.invocations::lower_body-r
 invocations::lower_body-returns-clause-code t c =
     on_ok_weaker c.value.result
     (body-made c.args.context.now c.args.place (ty_of c.args.t.now) c.args.arguments.now c.in_ok-count.count
-    (code_of c.args.draft.now) (code_of c.lower_arguments.new.draft) (code_of c.value.new.self)
-    c.in_ok-count.ensures c.in_ok-lower_arguments.ensures)
+    (code_of c.args.draft.now) (code_of c.lower_values.new.draft) (code_of c.value.new.self)
+    c.in_ok-count.ensures c.in_ok-lower_values.ensures)
     c.value.ensures.code

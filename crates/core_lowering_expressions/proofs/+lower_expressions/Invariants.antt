@@ -1,4 +1,4 @@
-use Rattle.std.proofs.Common.{◌≡◌, ◌+◌, ◌*◌, ◌++◌, max, map, drop}
+use Rattle.std.proofs.Common.{◌≡◌, ◌+◌, ◌*◌, ◌++◌, [], max, map, drop, length}
 use denote.Param.Weighed.{most}
 use Rattle.java_tree.specs.declared.expressions.Expression.{size-Expression}
 use Rattle.core_lowering_rules.specs.Trees.{pack_exprs, pack_inits}
@@ -7,9 +7,16 @@ use Rattle.core_lowering_rules.specs.Expressions.{passed, items_code}
 use Rattle.core_lowering_context.specs.Drafts.{code_of}
 use Rattle.core_lowering_expressions.proofs.+lower_expressions.Given as goal
 
-abbrev pub invariant-invocations::lower_arguments-loop-index : goal.invariant-invocations::lower_arguments-loop-index
-invariant-invocations::lower_arguments-loop-index l =
-    code_of l.draft ++ passed l.context (drop l.index l.kinds) (pack_exprs (map expr_of (drop l.index l.arguments)))
+abbrev pub invariant-invocations::lower_values-loop-value : goal.invariant-invocations::lower_values-loop-value
+invariant-invocations::lower_values-loop-value l =
+    code_of l.draft ++ passed l.context [] (pack_exprs (map expr_of (drop l.value-index l.values)))
+    ≡ code_of l.initial.draft ++ passed l.context [] (pack_exprs (map expr_of l.values))
+
+abbrev pub invariant-invocations::lower_arguments-loop-argument :
+    goal.invariant-invocations::lower_arguments-loop-argument
+invariant-invocations::lower_arguments-loop-argument l =
+    let i = length l.yielded in
+    code_of l.draft ++ passed l.context (drop i l.kinds) (pack_exprs (map expr_of (drop i l.arguments)))
     ≡ code_of l.initial.draft ++ passed l.context l.kinds (pack_exprs (map expr_of l.arguments))
 
 abbrev pub invariant-expressions::lower_array-loop-item : goal.invariant-expressions::lower_array-loop-item
@@ -37,13 +44,16 @@ abbrev pub decreases-expressions::lower_cast : goal.decreases-expressions::lower
 decreases-expressions::lower_cast l = 8 * goal.size-expressions::lower_cast l + 3
 
 abbrev pub decreases-invocations::lower_arguments : goal.decreases-invocations::lower_arguments
-decreases-invocations::lower_arguments l = 8 * goal.size-invocations::lower_arguments l + 3
+decreases-invocations::lower_arguments l = 8 * goal.size-invocations::lower_arguments l + 4
+
+abbrev pub decreases-invocations::lower_values : goal.decreases-invocations::lower_values
+decreases-invocations::lower_values l = 8 * goal.size-invocations::lower_values l + 3
 
 abbrev pub decreases-invocations::lower_call : goal.decreases-invocations::lower_call
-decreases-invocations::lower_call l = 8 * goal.size-invocations::lower_call l + 4
+decreases-invocations::lower_call l = 8 * goal.size-invocations::lower_call l + 5
 
 abbrev pub decreases-invocations::lower_new : goal.decreases-invocations::lower_new
-decreases-invocations::lower_new l = 8 * goal.size-invocations::lower_new l + 4
+decreases-invocations::lower_new l = 8 * goal.size-invocations::lower_new l + 5
 
 abbrev pub decreases-expressions::lower_lengths : goal.decreases-expressions::lower_lengths
 decreases-expressions::lower_lengths l = 8 * goal.size-expressions::lower_lengths l + 4
