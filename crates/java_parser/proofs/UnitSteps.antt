@@ -1,5 +1,7 @@
 -- A file is read as its types, or has its first fault.
-use Rattle.std.proofs.Common.{◌≡◌, inl, inr, List, [], ◌∷◌, ◌++◌, append-nil, append_assoc, ap, sym, ◌∙◌, subst}
+use Rattle.std.proofs.Common.{◌≡◌, ℕ, suc, ◌+◌, ◌<◌, inl, inr, List, [], ◌∷◌, ◌++◌, length, map, drop, get_or}
+use Rattle.std.proofs.Common.{append-nil, append_assoc, ap, sym, ◌∙◌, subst, arith}
+use Rattle.std.proofs.Math.Seq.{drop-cons}
 use Rattle.racer_base.specs.declared.ids.Place.{Place}
 use Rattle.java_lexer.specs.declared.token.Token.{Token}
 use Rattle.java_tree.specs.declared.unit.ClassTree.{ClassTree}
@@ -50,6 +52,17 @@ read_more all a b type rest h (inr s) = record {
       (sym (append_assoc a.skipped (s.place ∷ []) ps) ∙ ap (λ (l : List Place). l ++ ps) (sym s.skipped))
       (h.goes_on cs (s.place ∷ ps) (inr (s.none, s.begins, k)));
 }
+
+-- with the next of types that are looked at by this
+pub read_next : {X : Type 0} (f : X → List Token) (xs : List X) (i : ℕ) (d x : X) (a b : unit.Unit) → i < length xs
+    → x ≡ get_or xs i d → ReadSoFar (map f xs) a (map f (drop i xs)) → AddsType (f x) a b
+    → ReadSoFar (map f xs) b (map f (drop (i + 1) xs))
+read_next {X} f xs i d x a b lt is h adds =
+    let counted : suc i ≡ i + 1 = omega arith in
+    let next : drop i xs ≡ x ∷ drop (i + 1) xs =
+    drop-cons xs i d lt ∙ ap (λ (y : X). y ∷ drop (suc i) xs) (sym is) ∙ ap (λ (n : ℕ). x ∷ drop n xs) counted in
+    read_more (map f xs) a b (f x) (map f (drop (i + 1) xs))
+    (subst (λ (l : List X). ReadSoFar (map f xs) a (map f l)) next h) adds
 
 -- ---- files
 
