@@ -1,6 +1,6 @@
 -- What holds of each token of a file holds of each token of its types, its members and its fields.
-use Rattle.std.proofs.Common.{◌≡◌, ℕ, Bool, true, false, cond, not, List, [], ◌∷◌, map, filter, length}
-use Rattle.std.proofs.Common.{codes, refl, subst, ◌-◌}
+use Rattle.std.proofs.Common.{true, false, cond, not, List, [], ◌∷◌, map, filter, length}
+use Rattle.std.proofs.Common.{codes, subst, ◌-◌}
 use Rattle.java_lexer.specs.declared.token.Token.{Token}
 use Rattle.java_tree.specs.FormedModifiers.{Each}
 use Rattle.java_tree.specs.Trees.{Modifier}

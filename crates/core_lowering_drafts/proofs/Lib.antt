@@ -14,7 +14,6 @@ pub mod Kept
 pub mod LoopCode
 pub mod Marks
 pub mod Numbering
-pub mod OnlySteps
 pub mod PartCode
 pub mod Passed
 pub mod PathsKept
@@ -24,13 +23,12 @@ pub mod Pushed
 pub mod Queries
 pub mod Related
 pub mod Rests
-pub mod RoomSteps
 pub mod Rooms
 pub mod Rounds
 pub mod SameEnds
 pub mod Sequences
 pub mod Sets
 pub mod Steady
-pub mod Standing
+pub mod StandingBranches
 pub mod Stops
 pub mod Unmet

@@ -1,12 +1,12 @@
 -- A contract of a public call rests on this: what is seen of the branches behind a body with a `finally`.
-use Rattle.std.specs.Prelude.{◌≡◌, ℕ, ◌+◌, List, [], ◌∷◌, ⊤}
+use Rattle.std.specs.Prelude.{◌≡◌, ℕ, ◌+◌, List, [], ◌∷◌, ◌++◌, ⊤}
 use Rattle.core_lowering_drafts.specs.declared.behind.After.{After}
 use Rattle.core_lowering_drafts.specs.declared.behind.Branch.{Branch as CodeBranch}
 use Rattle.core_lowering_drafts.specs.declared.behind.Tail.{Tail}
 use Rattle.core_lowering_drafts.specs.declared.behind.Tail.TheVariants as tail
 use Rattle.core_lowering_drafts.specs.Drafts.{Draft, Ends, Normal, SameEnds, in_order, without}
 use Rattle.core_lowering_drafts.specs.EndSets.{seen, seen_asked}
-use Rattle.core_lowering_drafts.specs.Lists.{size_of}
+use Rattle.core_lowering_drafts.specs.Lists.{Parts, size_of}
 use Rattle.core_lowering_drafts.specs.Only.{Branch, Last, Rest, branches, onto}
 
 abbrev pub rest_by : (finally last : Draft) → Ends → Tail → Rest
@@ -24,6 +24,12 @@ rest_behind after t = rest_by (in_order after.finally.now) (in_order after.last.
 
 abbrev pub asked_behind : After → Tail → Ends
 asked_behind after t = asked_by (seen_asked after.asked) t
+
+-- what is done then, in parts
+abbrev pub parts_behind : After → Tail → Parts
+parts_behind after tail.AtExit = after.finally.now ++ after.last.now
+parts_behind after tail.Kept = after.finally.now
+parts_behind after tail.Turned = after.finally.now
 
 abbrev pub branch_of : After → CodeBranch → Branch
 branch_of after b =

@@ -17,7 +17,7 @@ use std::alloc::Global;
 /// A part where it stands in its sequence; the loop behind a body that is done at least once; the first so many groups
 /// of a `switch`, or nothing.
 #[derive(Clone, Copy)]
-pub(crate) enum Item<'a> {
+pub enum Item<'a> {
     Part(&'a Part),
     LoopOf(&'a Draft),
     Entered(&'a Groups, usize),
@@ -25,7 +25,7 @@ pub(crate) enum Item<'a> {
 
 /// What stands behind a part: nothing; parts that have none of the ends; parts that have one.
 #[derive(Clone, Copy)]
-pub(crate) enum Behind {
+pub enum Behind {
     Last,
     Unmet,
     Met,
@@ -34,7 +34,7 @@ pub(crate) enum Behind {
 /// Which code of a part is written: none; that of all its paths; of those that do not go on; of those that go on and
 /// those that end for good; of those that leave for an exit; the last two as a choice.
 #[derive(Clone, Copy)]
-pub(crate) enum Way {
+pub enum Way {
     Nothing,
     Whole,
     Leaving,
@@ -45,7 +45,7 @@ pub(crate) enum Way {
 
 /// A choice that is open to the right: the part that its left side begins with, and the one of its right side.
 #[derive(Clone, Copy)]
-pub(crate) struct Fork {
+pub struct Fork {
     pub left: usize,
     pub right: usize,
 }
@@ -70,7 +70,7 @@ fn push_piece<'a>(piece: &'a Piece, items: &mut Vec<Item<'a>>) -> Result<(), Mem
 
 /// Pieces, put behind the items that there are.
 #[cycle(items)]
-pub(crate) fn push_pieces<'a>(pieces: &'a [Piece], items: &mut Vec<Item<'a>>) -> Result<(), Memory>
+pub fn push_pieces<'a>(pieces: &'a [Piece], items: &mut Vec<Item<'a>>) -> Result<(), Memory>
     ensures { OnOk result (map item_of items.new.items ≡ map item_of items.old.items ++ all_parts pieces.now) }
 {
     for piece in pieces {
@@ -96,7 +96,7 @@ fn push_entered<'a>(
 }
 
 /// The first so many groups, put behind the items that there are.
-pub(crate) fn push_groups<'a>(
+pub fn push_groups<'a>(
     groups: &'a Groups,
     count: usize,
     items: &mut Vec<Item<'a>>,
@@ -164,7 +164,7 @@ fn way_met(alloc: Global, item: Item, behind: Behind, asked: Asked) -> Result<Wa
 }
 
 /// Which code of an item is written.
-pub(crate) fn way_of(alloc: Global, item: Item, behind: Behind, asked: Asked) -> Result<Way, Memory>
+pub fn way_of(alloc: Global, item: Item, behind: Behind, asked: Asked) -> Result<Way, Memory>
     ensures { IfOk result (λ way. way ≡ way_by (part_ends (item_of item.entry)) behind (seen_asked asked.entry)) }
 {
     if !are_met(alloc, item, behind, asked)? {
@@ -185,7 +185,7 @@ fn put_before(alloc: Global, item: Item, behind: Behind, asked: Asked) -> Result
 }
 
 /// What stands behind each item, the last one first.
-pub(crate) fn look_ahead(alloc: Global, items: &[Item], asked: Asked) -> Result<Vec<Behind>, Memory>
+pub fn look_ahead(alloc: Global, items: &[Item], asked: Asked) -> Result<Vec<Behind>, Memory>
     ensures { IfOk result (λ ahead. ahead.items ≡ shapes (map item_of items.now) (seen_asked asked.entry)) }
 {
     let mut ahead = Vec::new(alloc);

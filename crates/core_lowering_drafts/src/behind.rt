@@ -1,20 +1,22 @@
 //! What is done behind the paths of a body with a `finally`.
 ghost use Rattle.std.specs.Prelude.{◌≡◌, [], ◌∷◌, ◌++◌, ◌&&◌, not, filter, map, IfOk, OnOk};
-ghost use Rattle.core_lowering_drafts.specs.Branches.{AreAlike, all_branches, asked_behind, branch_of, rest_behind};
+ghost use Rattle.core_lowering_drafts.specs.Ahead.{item_of};
+ghost use Rattle.core_lowering_drafts.specs.Branches.{AreAlike, all_branches, asked_behind, branch_of, parts_behind, rest_behind};
 ghost use Rattle.core_lowering_drafts.specs.Drafts.{SameEnds, has, in_order, is_kept, is_same};
 ghost use Rattle.core_lowering_drafts.specs.Drafts as path;
 ghost use Rattle.core_lowering_drafts.specs.EndSets.{seen, seen_asked};
 ghost use Rattle.core_lowering_drafts.specs.Only.{Last, does_stand, is_met, onto};
 
+use crate::ahead::{Item, push_pieces};
 use crate::draft::Draft;
 use crate::ends::{Asked, Ends, Exit, both, either};
-use crate::only::meets;
+use crate::meeting::meets;
 use racer_base::Memory;
 use std::alloc::Global;
 
 /// A `finally`, what is done last behind the exit, and the ends that are asked for.
 #[derive(Clone, Copy)]
-pub(crate) struct After<'a> {
+pub struct After<'a> {
     pub finally: &'a Draft,
     pub last: &'a Draft,
     pub asked: Asked<'a>,
@@ -23,7 +25,7 @@ pub(crate) struct After<'a> {
 /// Behind a path of the body: `finally` and the last, where it left for the exit; `finally`, behind which it ends as it
 /// did; `finally`, by which it ends otherwise.
 #[derive(Clone, Copy)]
-pub(crate) enum Tail {
+pub enum Tail {
     AtExit,
     Kept,
     Turned,
@@ -31,9 +33,36 @@ pub(crate) enum Tail {
 
 /// Paths of a body that end by these, and what is done behind them.
 #[derive(Drop)]
-pub(crate) struct Branch {
+pub struct Branch {
     pub by: Ends,
     pub tail: Tail,
+}
+
+/// What is done behind, as items.
+pub fn items_behind<'a>(
+    alloc: Global,
+    after: After<'a>,
+    tail: Tail,
+) -> Result<Vec<Item<'a>>, Memory>
+    ensures { IfOk result (λ items. map item_of items.items ≡ parts_behind after.entry tail) }
+{
+    let mut items = Vec::new(alloc);
+    push_pieces(after.finally.pieces(), &mut items)?;
+    if let Tail::AtExit = tail {
+        push_pieces(after.last.pieces(), &mut items)?;
+    }
+    Ok(items)
+}
+
+/// For which ends it is done.
+pub fn asked_behind<'a>(after: After<'a>, tail: Tail) -> Asked<'a>
+    ensures { SameEnds (seen_asked result) (asked_behind after.entry tail) }
+{
+    match tail {
+        Tail::AtExit => after.asked,
+        Tail::Kept => after.asked.with_normal(),
+        Tail::Turned => after.asked.without_normal(),
+    }
 }
 
 /// Whether `finally`, and then the last, have an end that is asked for.
@@ -103,12 +132,7 @@ fn kept(body: &Ends, exit: Exit, asked: Asked) -> Result<Ends, Memory>
 }
 
 /// The branches that stand behind a body.
-pub(crate) fn standing(
-    alloc: Global,
-    body: &Ends,
-    exit: Exit,
-    after: After,
-) -> Result<Vec<Branch>, Memory>
+pub fn standing(alloc: Global, body: &Ends, exit: Exit, after: After) -> Result<Vec<Branch>, Memory>
     ensures { IfOk result (λ all. AreAlike (map (branch_of after.entry) all.items)
         (filter does_stand (all_branches exit.0 (seen body.now) after.entry))) }
 {

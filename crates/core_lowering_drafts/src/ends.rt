@@ -131,7 +131,7 @@ impl<'a> Asked<'a> {
     }
 
     /// The exception alone.
-    pub(crate) fn thrown(self) -> Asked<'a>
+    pub fn thrown(self) -> Asked<'a>
         ensures { seen_asked result ≡ thrown (seen_asked self.entry) }
     {
         Asked {
@@ -143,7 +143,7 @@ impl<'a> Asked<'a> {
     }
 
     /// The same ends, as a set of its own.
-    pub(crate) fn copied(self, alloc: Global) -> Result<Ends, Memory>
+    pub fn copied(self, alloc: Global) -> Result<Ends, Memory>
         ensures { IfOk result (λ ends. seen ends ≡ seen_asked self.entry) }
     {
         let exits = copied_exits(alloc, self.exits)?;
@@ -354,7 +354,7 @@ impl Ends {
     }
 
     /// With the exception, where it is asked for.
-    pub(crate) fn add_thrown(&mut self, asked: Asked)
+    pub fn add_thrown(&mut self, asked: Asked)
         ensures { SameEnds (seen self.new) (seen self.old ++ thrown (seen_asked asked.entry)) }
     {
         self.throws = either(self.throws, asked.throws);

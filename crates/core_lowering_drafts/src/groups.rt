@@ -26,7 +26,7 @@ fn ends_of_each(alloc: Global, drafts: &[Draft]) -> Result<Vec<Ends>, Memory>
 
 /// How many of the first groups are to be written, and for which ends.
 #[derive(Clone, Copy)]
-pub(crate) struct Start<'a> {
+pub struct Start<'a> {
     pub count: usize,
     pub asked: Asked<'a>,
 }
@@ -45,7 +45,7 @@ fn is_passed(groups: &Groups, count: usize, asked: Asked) -> bool
 }
 
 /// Where the code of the first so many groups starts.
-pub(crate) fn reached<'a>(groups: &Groups, count: usize, asked: Asked<'a>) -> Start<'a>
+pub fn reached<'a>(groups: &Groups, count: usize, asked: Asked<'a>) -> Start<'a>
     ensures within { result.count ≤ count }
     ensures code { only (in_order (fallen (take result.count groups.now))) (seen_asked result.asked)
         ≡ only (in_order (fallen (take count groups.now))) (seen_asked asked.entry) }
@@ -76,7 +76,7 @@ impl Groups {
     }
 
     /// How many groups there are.
-    pub(crate) fn len(&self) -> usize
+    pub fn len(&self) -> usize
         ensures { result ≡ length self.now }
     {
         self.drafts.len()
@@ -99,7 +99,7 @@ impl Groups {
     }
 
     /// Whether the first so many groups have such an end.
-    pub(crate) fn meet(&self, count: usize, asked: Asked) -> Result<bool, Memory>
+    pub fn meet(&self, count: usize, asked: Asked) -> Result<bool, Memory>
         ensures { IfOk result (λ met. met
             ≡ do_meet (ends_of (fallen (take count self.now))) (seen_asked asked.entry)) }
     {

@@ -154,7 +154,7 @@ impl Draft {
         }
     }
 
-    pub(crate) fn pieces(&self) -> &[Piece]
+    pub fn pieces(&self) -> &[Piece]
         ensures { all_parts result.now ≡ self.now }
     {
         self.pieces.as_slice()

@@ -2,7 +2,7 @@
 //! made: each part is asked once for every set of ends for which its sequence is written.
 ghost use Rattle.std.specs.Prelude.{◌≡◌, take, IfOk};
 ghost use Rattle.core_lowering_drafts.specs.Ahead.{item_of};
-ghost use Rattle.core_lowering_drafts.specs.Drafts.{do_meet, in_order, no_part, part_ends};
+ghost use Rattle.core_lowering_drafts.specs.Drafts.{do_meet, in_order, meets, no_part, part_ends};
 ghost use Rattle.core_lowering_drafts.specs.Drafts as path;
 ghost use Rattle.core_lowering_drafts.specs.EndSets.{seen_asked};
 ghost use Rattle.core_lowering_drafts.specs.Groups.{fallen};
@@ -12,9 +12,15 @@ use crate::ahead::Item;
 use crate::draft::{Draft, Groups, Part};
 use crate::ends::{Asked, Ends, Exit, both, either};
 use crate::joined::{part_ends, within_ends};
-use crate::only::meets;
 use racer_base::Memory;
 use std::alloc::Global;
+
+/// Whether a draft has such an end.
+pub fn meets(draft: &Draft, asked: Asked) -> bool
+    ensures { result ≡ meets (in_order draft.now) (seen_asked asked.entry) }
+{
+    draft.ends().meet(asked)
+}
 
 fn choice_meets(left: &Draft, right: &Draft, asked: Asked) -> bool
     ensures { result ≡ do_meet (part_ends (path.Choice (in_order left.now) (in_order right.now)))

@@ -35,7 +35,7 @@ impl From<Memory> for Stop {
 /// How many more operations and branchings there is room for, how many branchings stand around what is written next,
 /// and how many of them may stand within each other.
 #[derive(Clone, Copy)]
-pub(crate) struct Room {
+pub struct Room {
     left: u64,
     within: u32,
     most: u32,
@@ -269,7 +269,7 @@ impl Written {
     }
 
     /// What is written next is the code of a method's block that has so many tokens. Gives the room that there was.
-    pub(crate) fn limit(&mut self, tokens: u32) -> Room
+    pub fn limit(&mut self, tokens: u32) -> Room
         ensures code { code_of self.new ≡ code_of self.old }
         ensures room { room_of self.new ≡ small_room tokens }
         ensures before { result ≡ room_of self.old }
@@ -278,7 +278,7 @@ impl Written {
     }
 
     /// There is this room from here on.
-    pub(crate) fn go_on(&mut self, room: Room)
+    pub fn go_on(&mut self, room: Room)
         ensures code { code_of self.new ≡ code_of self.old }
         ensures room { room_of self.new ≡ room }
     {

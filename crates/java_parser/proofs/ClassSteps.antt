@@ -5,7 +5,7 @@ use Rattle.java_tree.specs.declared.words.Spelled.{Spelled}
 use Rattle.java_tree.specs.Trees.{Modifier}
 use Rattle.java_parser_grammar.specs.Tokens.{plain_all}
 use Rattle.java_parser_grammar.specs.ClassHeads.{IsHead, HasNoHead}
-use Rattle.java_parser_grammar.specs.ClassHeadReading.{type_modifiers_at, name_behind_class, class_head}
+use Rattle.java_parser_grammar.specs.ClassHeadReading.{type_modifiers_at, name_behind_class}
 use Rattle.java_parser_grammar.proofs.ReadHeads.{head_sound, no_head}
 use Rattle.java_parser_types.specs.Tokens.{spelled}
 use Rattle.java_parser.proofs.SameEnds.{plain_length}

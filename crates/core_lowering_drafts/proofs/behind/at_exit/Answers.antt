@@ -3,7 +3,7 @@ use Rattle.std.proofs.lemmas.Result.{IfOk-weaker}
 use Rattle.core_lowering_drafts.specs.Drafts.{Exit, SameEnds, has, is_same}
 use Rattle.core_lowering_drafts.specs.EndSets.{seen}
 use Rattle.core_lowering_drafts.proofs.DraftEnds.{copy-same}
-use Rattle.core_lowering_drafts.proofs.Standing.{at-exit-found, at-exit-none}
+use Rattle.core_lowering_drafts.proofs.StandingBranches.{at-exit-found, at-exit-none}
 use Rattle.core_lowering_drafts.proofs.behind.at_exit.Goals as goal
 
 pub returns-then-has : goal.returns-then-has

@@ -1,7 +1,7 @@
 use Rattle.std.proofs.Common.{ap, ◌∙◌}
 use Rattle.core_lowering_drafts.specs.Drafts.{Ends, Normal, in_order, meets}
 use Rattle.core_lowering_drafts.specs.EndSets.{seen_asked}
-use Rattle.core_lowering_drafts.proofs.Standing.{both-met}
+use Rattle.core_lowering_drafts.proofs.StandingBranches.{both-met}
 use Rattle.core_lowering_drafts.proofs.behind.do_both_meet.Goals as goal
 
 pub returns : goal.returns

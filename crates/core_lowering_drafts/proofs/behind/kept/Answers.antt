@@ -1,5 +1,5 @@
 use Rattle.core_lowering_drafts.specs.EndSets.{seen, seen_asked}
-use Rattle.core_lowering_drafts.proofs.Standing.{kept-made}
+use Rattle.core_lowering_drafts.proofs.StandingBranches.{kept-made}
 use Rattle.core_lowering_drafts.proofs.behind.kept.Goals as goal
 
 pub returns : goal.returns

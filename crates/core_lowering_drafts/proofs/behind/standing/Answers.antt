@@ -4,7 +4,7 @@ use Rattle.core_lowering_drafts.specs.declared.behind.Tail.TheVariants.{AtExit, 
 use Rattle.core_lowering_drafts.specs.Branches.{AreAlike, all_branches, branch_of}
 use Rattle.core_lowering_drafts.specs.EndSets.{seen}
 use Rattle.core_lowering_drafts.specs.Only.{Branch, does_stand}
-use Rattle.core_lowering_drafts.proofs.Standing.{standing-alike, three-kept}
+use Rattle.core_lowering_drafts.proofs.StandingBranches.{standing-alike, three-kept}
 use Rattle.core_lowering_drafts.proofs.behind.standing.Goals as goal
 
 pub returns : goal.returns

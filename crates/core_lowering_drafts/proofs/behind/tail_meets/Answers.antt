@@ -5,7 +5,7 @@ use Rattle.core_lowering_drafts.specs.Drafts.{Normal, in_order, without}
 use Rattle.core_lowering_drafts.specs.EndSets.{seen_asked}
 use Rattle.core_lowering_drafts.specs.Only.{is_met}
 use Rattle.core_lowering_drafts.proofs.DraftEnds.{equal-same}
-use Rattle.core_lowering_drafts.proofs.Standing.{alone-same}
+use Rattle.core_lowering_drafts.proofs.StandingBranches.{alone-same}
 use Rattle.core_lowering_drafts.proofs.behind.tail_meets.Goals as goal
 
 pub returns-in-AtExit : goal.returns-in-AtExit

@@ -1,5 +1,5 @@
 use Rattle.core_lowering_drafts.specs.EndSets.{seen, seen_asked}
-use Rattle.core_lowering_drafts.proofs.Standing.{turned-made}
+use Rattle.core_lowering_drafts.proofs.StandingBranches.{turned-made}
 use Rattle.core_lowering_drafts.proofs.behind.turned.Goals as goal
 
 pub returns : goal.returns

@@ -2,7 +2,7 @@ use Rattle.std.proofs.Common.{refl, ◌∙◌}
 use Rattle.core_lowering_drafts.specs.EndSets.{seen, seen_asked}
 use Rattle.core_lowering_drafts.specs.Lists.{ends_of}
 use Rattle.core_lowering_drafts.proofs.SameEnds.{meet-same}
-use Rattle.core_lowering_drafts.proofs.only.meets.Goals as goal
+use Rattle.core_lowering_drafts.proofs.meeting.meets.Goals as goal
 
 pub returns : goal.returns
 returns c =

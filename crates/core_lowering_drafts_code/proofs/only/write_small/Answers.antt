@@ -3,7 +3,7 @@ use Rattle.core_lowering_drafts.specs.Drafts.{in_order}
 use Rattle.core_lowering_drafts.specs.Only.{all_ends, only}
 use Rattle.core_lowering_drafts.specs.Written.{room_of}
 use Rattle.core_lowering_drafts.proofs.Rooms.{tells-size}
-use Rattle.core_lowering_drafts.proofs.only.write_small.Goals as goal
+use Rattle.core_lowering_drafts_code.proofs.only.write_small.Goals as goal
 
 pub returns-in_err-write-clause-size : goal.returns-in_err-write-clause-size
 returns-in_err-write-clause-size c =

@@ -7,10 +7,8 @@ ghost use Rattle.core_lowering_drafts.specs.Only.{fork, loop_of, looped, only, r
 ghost use Rattle.core_lowering_drafts.specs.Rooms.{IsRoom, in_branching, room_behind};
 ghost use Rattle.core_lowering_drafts.specs.Written.{code_of, room_of};
 
-use crate::draft::Draft;
-use crate::ends::Asked;
-use crate::only::{meets, write};
-use crate::written::{Stop, Written};
+use crate::only::write;
+use core_lowering_drafts::{Asked, Draft, Stop, Written, meets};
 use std::alloc::Global;
 
 /// A loop round a draft.

@@ -10,13 +10,20 @@ use Rattle.racer_base.proofs.Lists.{same_3}
 use Rattle.racer_base.proofs.Tests.{same_truth}
 use Rattle.core_lowering_drafts.specs.declared.behind.After.{After}
 use Rattle.core_lowering_drafts.specs.declared.behind.Branch.{Branch as CodeBranch}
-use Rattle.core_lowering_drafts.specs.Branches.{AreAlike, branch_of}
+use Rattle.core_lowering_drafts.specs.declared.behind.Tail.{Tail}
+use Rattle.core_lowering_drafts.specs.declared.behind.Tail.TheVariants.{AtExit, Kept, Turned}
+use Rattle.core_lowering_drafts.specs.Ahead.{rest_of}
+use Rattle.core_lowering_drafts.specs.Branches.{AreAlike, after_size, asked_behind, branch_of, parts_behind, rest_behind}
 use Rattle.core_lowering_drafts.specs.Drafts.{Draft, Part, Normal, Exit, Ends, SameEnds, has, is_kept, is_same}
-use Rattle.core_lowering_drafts.specs.Drafts.{ends, meets, without}
+use Rattle.core_lowering_drafts.specs.Drafts.{ends, in_order, meets, without}
+use Rattle.core_lowering_drafts.specs.EndSets.{seen_asked}
+use Rattle.core_lowering_drafts.specs.Lists.{size_of}
 use Rattle.core_lowering_drafts.specs.Only.{Branch, Code, Last, Rest, branches, code_in, does_stand, fork, forked}
 use Rattle.core_lowering_drafts.specs.Only.{is_met}
 use Rattle.core_lowering_drafts.specs.Only.{onto, thrown}
-use Rattle.core_lowering_drafts.proofs.SameEnds.{any-same, append-same, filter-same, meets-alike}
+use Rattle.core_lowering_drafts.specs.PieceFalls.{size_of-append}
+use Rattle.core_lowering_drafts.proofs.SameEnds.{any-same, append-same, filter-same, meets-alike, only-alike}
+use Rattle.core_lowering_drafts.proofs.Sequences.{onto-append}
 use Rattle.core_lowering_drafts.proofs.Sets.{has-filter, one-there, only-one, same_end, same_itself}
 use Rattle.core_lowering_drafts.proofs.Unmet.{alone-met, onto-met}
 
@@ -209,8 +216,17 @@ behind-code part alike k B C A x y z same bs found =
     ∙ forked-alike part alike A (filter does_stand (branches k B A x y z)) (filter does_stand (branches k C A x y z))
     (standing-alike (branches k B A x y z) (branches k C A x y z) (bodies-same k B C A x y z same))
 
--- ---- items
+-- ---- what is done behind
 
-pub both-items : (f l p q one two : List Part) → one ≡ [] ++ p → p ≡ f → two ≡ one ++ q → q ≡ l → two ≡ f ++ l
-both-items f l p q one two a b c d =
-    c ∙ ap (λ (xs : List Part). xs ++ q) (a ∙ b) ∙ ap (λ (xs : List Part). f ++ xs) d
+pub behind-size : (after : After) (tail : Tail) → size_of (parts_behind after tail) ≤ after_size after
+behind-size after AtExit = omega (arith, size_of-append after.finally.now after.last.now)
+behind-size after Kept = omega arith
+behind-size after Turned = omega arith
+
+pub tail-code : (after : After) (tail : Tail) (X : Ends) → SameEnds X (asked_behind after tail) →
+    code_in (rest_of (parts_behind after tail) X) ≡ code_in (rest_behind after tail)
+tail-code after AtExit X s =
+    only-alike (in_order (after.finally.now ++ after.last.now)) X (seen_asked after.asked) s
+    ∙ ap code_in (onto-append after.finally.now after.last.now (seen_asked after.asked) Last)
+tail-code after Kept X s = only-alike (in_order after.finally.now) X (asked_behind after Kept) s
+tail-code after Turned X s = only-alike (in_order after.finally.now) X (asked_behind after Turned) s

@@ -6,9 +6,9 @@ use Rattle.racer_base.specs.declared.ids.VarId.{VarId}
 use Rattle.core_lowering_drafts.specs.Only.{Code, cleared}
 use Rattle.core_lowering_drafts.specs.Rooms.{IsStopped, room_behind}
 use Rattle.core_lowering_drafts.specs.Written.{code_of, room_of}
-use Rattle.core_lowering_drafts.proofs.RoomSteps.{clear-one, cleared-goes, cleared-stopped}
+use Rattle.core_lowering_drafts_code.proofs.RoomSteps.{clear-one, cleared-goes, cleared-stopped}
 use Rattle.core_lowering_drafts.proofs.Rooms.{room-nothing}
-use Rattle.core_lowering_drafts.proofs.only.write_cleared.Goals as goal
+use Rattle.core_lowering_drafts_code.proofs.only.write_cleared.Goals as goal
 use Rattle.std.proofs.Common.{List}
 
 pub returns-clause-room : goal.returns-clause-room

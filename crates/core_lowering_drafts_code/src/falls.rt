@@ -8,12 +8,8 @@ ghost use Rattle.core_lowering_drafts.specs.Only.{fork, only, only_part};
 ghost use Rattle.core_lowering_drafts.specs.Rooms.{IsRoom, in_branching, room_behind};
 ghost use Rattle.core_lowering_drafts.specs.Written.{code_of, room_of};
 
-use crate::ahead::push_groups;
-use crate::draft::Groups;
-use crate::ends::Asked;
-use crate::groups::reached;
 use crate::only::write_items;
-use crate::written::{Stop, Written};
+use core_lowering_drafts::{Asked, Groups, Stop, Written, push_groups, reached};
 use std::alloc::Global;
 
 /// The first so many groups. Groups behind which nothing is written stand in no choice, and so they are passed without

@@ -4,33 +4,15 @@ ghost use Rattle.core_lowering_drafts.specs.Branches.{branch_of, rest_behind};
 ghost use Rattle.core_lowering_drafts.specs.Drafts.{in_order};
 ghost use Rattle.core_lowering_drafts.specs.Drafts as path;
 ghost use Rattle.core_lowering_drafts.specs.EndSets.{seen, seen_asked};
-ghost use Rattle.core_lowering_drafts.specs.Only.{Last, code_in, fork, forked, only, only_part, onto};
+ghost use Rattle.core_lowering_drafts.specs.Only.{code_in, fork, forked, only, only_part};
 ghost use Rattle.core_lowering_drafts.specs.Rooms.{IsRoom, in_branching, room_behind};
 ghost use Rattle.core_lowering_drafts.specs.Written.{code_of, room_of};
 
-use crate::ahead::push_pieces;
-use crate::behind::{After, Branch, Tail, standing};
-use crate::draft::Draft;
-use crate::ends::{Asked, Exit};
 use crate::only::{write, write_items};
-use crate::written::{Stop, Written};
+use core_lowering_drafts::{
+    After, Asked, Branch, Draft, Exit, Stop, Tail, Written, asked_behind, items_behind, standing,
+};
 use std::alloc::Global;
-
-/// `finally`, and then the last.
-#[cycle(only)]
-fn write_both(alloc: Global, after: After, written: &mut Written) -> Result<(), Stop>
-    ensures code { OnOk result (code_of written.new ≡ code_of written.old
-        ++ code_in (onto (in_order after.entry.finally.now) (seen_asked after.entry.asked)
-        (onto (in_order after.entry.last.now) (seen_asked after.entry.asked) Last))) }
-    ensures room { IsRoom (room_behind (code_in (onto (in_order after.entry.finally.now)
-        (seen_asked after.entry.asked) (onto (in_order after.entry.last.now) (seen_asked after.entry.asked) Last)))
-        (room_of written.old)) (room_of written.new) result }
-{
-    let mut items = Vec::new(alloc);
-    push_pieces(after.finally.pieces(), &mut items)?;
-    push_pieces(after.last.pieces(), &mut items)?;
-    write_items(alloc, items.as_slice(), after.asked, written)
-}
 
 /// What is done behind a path of the body.
 #[cycle(only)]
@@ -40,11 +22,8 @@ fn write_tail(alloc: Global, after: After, tail: Tail, written: &mut Written) ->
     ensures room { IsRoom (room_behind (code_in (rest_behind after.entry tail)) (room_of written.old))
         (room_of written.new) result }
 {
-    match tail {
-        Tail::AtExit => write_both(alloc, after, written),
-        Tail::Kept => write(alloc, after.finally, after.asked.with_normal(), written),
-        Tail::Turned => write(alloc, after.finally, after.asked.without_normal(), written),
-    }
+    let items = items_behind(alloc, after, tail)?;
+    write_items(alloc, items.as_slice(), asked_behind(after, tail), written)
 }
 
 /// Paths of a body, and what is done behind them.

@@ -6,32 +6,29 @@ use Rattle.std.proofs.lemmas.Result.{err_from_is_err_and, on_ok_weaker}
 use Rattle.core_lowering_drafts.specs.declared.ahead.Item.{Item}
 use Rattle.core_lowering_drafts.specs.declared.ahead.Way.TheVariants.{Both}
 use Rattle.core_lowering_drafts.specs.declared.behind.Branch.{Branch as CodeBranch}
-use Rattle.core_lowering_drafts.specs.declared.behind.Tail.{Tail}
 use Rattle.core_lowering_drafts.specs.declared.behind.Tail.TheVariants.{AtExit, Kept, Turned}
 use Rattle.core_lowering_drafts.specs.declared.draft.Part.{Part as CodePart}
 use Rattle.core_lowering_drafts.specs.Ahead.{closed, item_of, passed, rest_of}
-use Rattle.core_lowering_drafts.specs.Branches.{all_branches, branch_of, rest_behind}
+use Rattle.core_lowering_drafts.specs.Branches.{after_size, all_branches, branch_of, parts_behind, rest_behind}
 use Rattle.core_lowering_drafts.specs.Drafts.{Choice, Ends, Normal, SameEnds, ends, exits, final_ends, in_order}
 use Rattle.core_lowering_drafts.specs.Drafts.{no_part, on}
 use Rattle.core_lowering_drafts.specs.EndSets.{seen, seen_asked}
 use Rattle.core_lowering_drafts.specs.Groups.{fallen}
 use Rattle.core_lowering_drafts.specs.Lists.{Parts, part_size, size_of}
-use Rattle.core_lowering_drafts.specs.Only.{Code, Last, Rest, asked_within, cleared, code_in, fork, forked, loop_of}
+use Rattle.core_lowering_drafts.specs.Only.{Code, asked_within, cleared, code_in, fork, forked, loop_of}
 use Rattle.core_lowering_drafts.specs.Only.{only, only_part, rounds, thrown}
-use Rattle.core_lowering_drafts.specs.PieceFalls.{size_of-append}
-use Rattle.core_lowering_drafts.specs.Pieces.{all_parts, part_of}
+use Rattle.core_lowering_drafts.specs.Pieces.{part_of}
 use Rattle.core_lowering_drafts.specs.Rooms.{IsRoom, in_branching, left_behind, room_behind}
 use Rattle.core_lowering_drafts.specs.Written.{code_of, room_of}
 use Rattle.core_lowering_drafts.proofs.DraftEnds.{copy-same}
-use Rattle.core_lowering_drafts.proofs.OnlySteps.{before-end, item-within, one-here, open-step, part-both, popped}
-use Rattle.core_lowering_drafts.proofs.OnlySteps.{way-subst}
+use Rattle.core_lowering_drafts_code.proofs.OnlySteps.{before-end, item-within, one-here, open-step, part-both, popped}
+use Rattle.core_lowering_drafts_code.proofs.OnlySteps.{way-subst}
 use Rattle.core_lowering_drafts.proofs.Passed.{taken-size}
 use Rattle.core_lowering_drafts.proofs.Rooms.{room-fork, room-fork-left, room-lock, room-loop, room-nothing}
-use Rattle.core_lowering_drafts.proofs.RoomSteps.{forked-or, open-room, open-stopped, then-goes, then-stopped}
+use Rattle.core_lowering_drafts_code.proofs.RoomSteps.{forked-or, open-room, open-stopped, then-goes, then-stopped}
 use Rattle.core_lowering_drafts.proofs.SameEnds.{only-alike}
-use Rattle.core_lowering_drafts.proofs.Sequences.{onto-append}
-use Rattle.core_lowering_drafts.proofs.Standing.{behind-code, both-items, few}
-use Rattle.core_lowering_drafts.proofs.+only.Goals as goal
+use Rattle.core_lowering_drafts.proofs.StandingBranches.{behind-code, behind-size, few, tail-code}
+use Rattle.core_lowering_drafts_code.proofs.+only.Goals as goal
 
 pub only::write_before-returns-in_ok-write_item-in-Both-clause-code :
     goal.only::write_before-returns-in_ok-write_item-in-Both-clause-code
@@ -348,36 +345,25 @@ finallys::write_behind-returns t c =
           (room_of c.write_forked.new.written) c.write_forked.result) same c.write_forked.ensures.room;
     }
 
-pub finallys::write_both-write_items-requires : goal.finallys::write_both-write_items-requires
-finallys::write_both-write_items-requires t c =
-    let f = c.args.after.finally.now in
-    let l = c.args.after.last.now in
-    let made : map item_of c.as_slice.result.now ≡ f ++ l =
-    ap (map item_of) c.as_slice.ensures.value
-    ∙ both-items f l (all_parts c.pieces.result.now) (all_parts c.pieces-2.result.now)
-    (map item_of c.push_pieces.new.items.items) (map item_of c.push_pieces-2.new.items.items)
-    (c.in_ok-push_pieces.ensures
-    ∙ ap (λ (xs : List Item). map item_of xs ++ all_parts c.pieces.result.now) c.new-items.ensures.items)
-    c.pieces.ensures c.in_ok-push_pieces-2.ensures c.pieces-2.ensures in
-    let size : size_of (map item_of c.as_slice.result.now) ≡ size_of f + size_of l =
-    ap (λ (parts : Parts). size_of parts) made ∙ size_of-append f l in
-    (omega (arith, size, c.decreases), tt)
+pub finallys::write_tail-write_items-requires : goal.finallys::write_tail-write_items-requires
+finallys::write_tail-write_items-requires t c =
+    let after = c.args.after in
+    let made : map item_of c.as_slice.result.now ≡ parts_behind after c.args.tail =
+    ap (map item_of) c.as_slice.ensures.value ∙ c.in_ok-items.ensures in
+    let size : size_of (map item_of c.as_slice.result.now) ≡ size_of (parts_behind after c.args.tail) =
+    ap (λ (parts : Parts). size_of parts) made in
+    let within : size_of (parts_behind after c.args.tail) ≤ after_size after = behind-size after c.args.tail in
+    (omega (arith, size, within, c.decreases), tt)
 
-pub finallys::write_both-returns : goal.finallys::write_both-returns
-finallys::write_both-returns t c =
-    let f = c.args.after.finally.now in
-    let l = c.args.after.last.now in
-    let A = seen_asked c.args.after.asked in
+pub finallys::write_tail-returns : goal.finallys::write_tail-returns
+finallys::write_tail-returns t c =
+    let after = c.args.after in
+    let A = seen_asked c.asked_behind.result in
     let old = code_of c.args.written.now in
-    let made : map item_of c.as_slice.result.now ≡ f ++ l =
-    ap (map item_of) c.as_slice.ensures.value
-    ∙ both-items f l (all_parts c.pieces.result.now) (all_parts c.pieces-2.result.now)
-    (map item_of c.push_pieces.new.items.items) (map item_of c.push_pieces-2.new.items.items)
-    (c.in_ok-push_pieces.ensures
-    ∙ ap (λ (xs : List Item). map item_of xs ++ all_parts c.pieces.result.now) c.new-items.ensures.items)
-    c.pieces.ensures c.in_ok-push_pieces-2.ensures c.pieces-2.ensures in
+    let made : map item_of c.as_slice.result.now ≡ parts_behind after c.args.tail =
+    ap (map item_of) c.as_slice.ensures.value ∙ c.in_ok-items.ensures in
     let same = ap (λ (parts : Parts). code_in (rest_of parts A)) made
-    ∙ ap (λ (rest : Rest). code_in rest) (onto-append f l A Last) in
+    ∙ tail-code after c.args.tail A c.asked_behind.ensures in
     record {
       code =
           on_ok_weaker c.write_items.result (λ put. put ∙ ap (λ (code : Code). old ++ code) same)
@@ -407,22 +393,6 @@ finallys::write_last_branch-returns t c =
       room =
           subst (λ (code : Code). IsRoom (room_behind code (room_of c.args.written.now))
           (room_of c.write_branch.new.written) c.write_branch.result) same c.write_branch.ensures.room;
-    }
-
-pub finallys::write_tail-returns-in-Kept : goal.finallys::write_tail-returns-in-Kept
-finallys::write_tail-returns-in-Kept t c =
-    let after = c.args.after in
-    let F = in_order after.finally.now in
-    let A = seen_asked after.asked in
-    let old = code_of c.args.written.now in
-    let same = only-alike F (seen_asked c.with_normal.result) (Normal ∷ A) c.with_normal.ensures
-    ∙ ap (λ (tail : Tail). code_in (rest_behind after tail)) (sym c.in-Kept.is) in
-    record {
-      code =
-          on_ok_weaker c.write.result (λ made. made ∙ ap (λ (code : Code). old ++ code) same) c.write.ensures.code;
-      room =
-          subst (λ (code : Code). IsRoom (room_behind code (room_of c.args.written.now)) (room_of c.write.new.written)
-          c.write.result) same c.write.ensures.room;
     }
 
 pub finallys::write_branch-returns-in_err-write-clause-room :

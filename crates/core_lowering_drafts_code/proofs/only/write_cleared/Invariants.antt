@@ -3,7 +3,7 @@ use Rattle.std.specs.List.{flat_map}
 use Rattle.core_lowering_drafts.specs.Only.{cleared}
 use Rattle.core_lowering_drafts.specs.Rooms.{room_behind}
 use Rattle.core_lowering_drafts.specs.Written.{code_of, room_of}
-use Rattle.core_lowering_drafts.proofs.only.write_cleared.Given as goal
+use Rattle.core_lowering_drafts_code.proofs.only.write_cleared.Given as goal
 
 abbrev pub invariant-loop-variable : goal.invariant-loop-variable
 invariant-loop-variable l =

@@ -8,7 +8,7 @@ use Rattle.core_lowering_drafts.specs.Pieces.{part_of}
 use Rattle.core_lowering_drafts.specs.Lists.{part_size, size_of}
 use Rattle.core_lowering_drafts.specs.Rooms.{left_behind, room_behind}
 use Rattle.core_lowering_drafts.specs.Written.{code_of, room_of}
-use Rattle.core_lowering_drafts.proofs.+only.Given as goal
+use Rattle.core_lowering_drafts_code.proofs.+only.Given as goal
 
 -- what is left is written too, and the choices are closed then
 abbrev pub invariant-only::write_open-loop-item : goal.invariant-only::write_open-loop-item
@@ -116,6 +116,3 @@ decreases-finallys::write_branch l = 32 * suc (size_of l.body.now + after_size l
 
 abbrev pub decreases-finallys::write_tail : goal.decreases-finallys::write_tail
 decreases-finallys::write_tail l = 32 * after_size l.after + 22
-
-abbrev pub decreases-finallys::write_both : goal.decreases-finallys::write_both
-decreases-finallys::write_both l = 32 * after_size l.after + 21

@@ -2,7 +2,7 @@ use Rattle.std.proofs.Common.{◌≡◌, ◌-◌, drop, length}
 use Rattle.core_lowering_drafts.specs.Ahead.{closed}
 use Rattle.core_lowering_drafts.specs.Rooms.{left_rooms}
 use Rattle.core_lowering_drafts.specs.Written.{code_of, room_of}
-use Rattle.core_lowering_drafts.proofs.only.close.Given as goal
+use Rattle.core_lowering_drafts_code.proofs.only.close.Given as goal
 
 abbrev pub invariant-loop-i : goal.invariant-loop-i
 invariant-loop-i l =

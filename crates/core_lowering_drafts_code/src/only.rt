@@ -3,7 +3,7 @@ ghost use Rattle.std.specs.Prelude.{◌≡◌, [], ◌∷◌, ◌++◌, length, 
 ghost use Rattle.std.specs.List.{flat_map};
 ghost use Rattle.core_code.specs.Tree.{in_sequence};
 ghost use Rattle.core_lowering_drafts.specs.Ahead.{closed, done_by, item_of, rest_of, way_by};
-ghost use Rattle.core_lowering_drafts.specs.Drafts.{SameEnds, in_order, meets, part_ends};
+ghost use Rattle.core_lowering_drafts.specs.Drafts.{SameEnds, in_order, part_ends};
 ghost use Rattle.core_lowering_drafts.specs.Drafts as path;
 ghost use Rattle.core_lowering_drafts.specs.EndSets.{seen, seen_asked};
 ghost use Rattle.core_lowering_drafts.specs.Only.{Code, all_ends, asked_within, cleared, code_in, fork, only};
@@ -15,24 +15,16 @@ ghost use Rattle.core_lowering_drafts.specs.Sites.{locked};
 ghost use Rattle.core_lowering_drafts.specs.Sizes.{TellsSize, is_small};
 ghost use Rattle.core_lowering_drafts.specs.Written.{code_of, room_of};
 
-use crate::ahead::{Behind, Fork, Item, Way, look_ahead, push_pieces, way_of};
-use crate::behind::After;
-use crate::draft::{Draft, Part};
-use crate::ends::{Asked, Ends, Exit};
 use crate::falls::write_entered;
 use crate::finallys::write_behind;
 use crate::loops::write_loop;
-use crate::written::{Stop, Written};
 use core_code::{LockKind, Op};
+use core_lowering_drafts::{
+    After, Asked, Behind, Draft, Ends, Exit, Fork, Item, Part, Stop, Way, Written, look_ahead,
+    meets, push_pieces, way_of,
+};
 use racer_base::{Memory, Place, VarId};
 use std::alloc::Global;
-
-/// Whether a draft has such an end.
-pub(crate) fn meets(draft: &Draft, asked: Asked) -> bool
-    ensures { result ≡ meets (in_order draft.now) (seen_asked asked.entry) }
-{
-    draft.ends().meet(asked)
-}
 
 /// What is asked for within a body behind which an exit leads.
 fn within_asked(alloc: Global, exit: Exit, asked: Asked) -> Result<Ends, Memory>

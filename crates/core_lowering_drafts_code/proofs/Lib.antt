@@ -1,0 +1,3 @@
+-- What is proved of the functions that write the code of drafts.
+mod OnlySteps
+mod RoomSteps
