@@ -97,6 +97,8 @@ def place_html(report, place, told, snippets, name=None):
 def column(field, side, thread, snippets):
     """The places of a thread, from its entry down to the access."""
     report, name = field.report, side["path"].rpartition(".")[2]
+    # What a container holds is touched by a call: the name of the method stands at the place.
+    name = None if name.endswith("[]") else name
     places = side["at"]
     made = [place_html(report, place, "calls at" if i else "enters, calls at", snippets) for i, place in
             enumerate(places[:-1])]

@@ -48,6 +48,12 @@ class Report:
     words: str = ""
 
 
+def has_containers(report):
+    """Whether a report shows that it was made with --containers: by what racer-packages tells, or by a path."""
+    sides = (side for warning in report.object["warnings"] for side in (warning, warning["with"]))
+    return bool((report.facts or {}).get("containers")) or any(side["path"].endswith("[]") for side in sides)
+
+
 def folder_prefix(folder):
     """What is put before the name of a file of this folder."""
     return "" if folder in ("", ".") else folder.rstrip("/") + "/"

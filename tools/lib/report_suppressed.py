@@ -16,11 +16,12 @@ def suppressions(report):
 
 def is_left_out(one, member, method, path):
     """Whether a warning of a method, on a path, is one that stands under an annotation: of its class, of its method, or
-    of the field that its path ends with."""
+    of the field that its path ends with, or what that field's container holds."""
     if owner_of(method) != one.name:
         return False
     own = method[len(one.name) + 1 :]
-    return not member or own == member or path in (f"this.{member}", f"{one.name}.{member}")
+    fields = (f"this.{member}", f"{one.name}.{member}")
+    return not member or own == member or path in fields or path in [f"{field}[]" for field in fields]
 
 
 def place_of(report, one, member):

@@ -15,8 +15,8 @@ NAME = "witness"
 class Copy:
     """A copy of the sources of a report, on which witnesses are replayed."""
 
-    def __init__(self, report, program):
-        self.program, self.sources = program, sources_of(report)
+    def __init__(self, report, words):
+        self.words, self.sources = words, sources_of(report)
         if not self.sources:
             raise Fault("the sources of the report are not at hand (--sources FOLDER)")
         self.folder = tempfile.TemporaryDirectory(prefix="racer-witness-")
@@ -38,7 +38,7 @@ class Copy:
         """What racer says of a witness, and its status."""
         with open(os.path.join(self.folder.name, NAME), "w", encoding="utf-8", errors="surrogateescape") as file:
             file.write(text)
-        words = [self.program, self.folder.name, "--replay", NAME]
+        words = [self.words[0], self.folder.name, "--replay", NAME, *self.words[1:]]
         ended = subprocess.run(words, stdin=subprocess.DEVNULL, stdout=subprocess.PIPE, check=False)
         return ended.stdout.decode("utf-8", "surrogateescape"), ended.returncode
 
@@ -50,9 +50,9 @@ class Copy:
         return int(found[2]) if found and int(found[1]) == leg else None
 
 
-def replayed(report, text, program):
-    """What racer says of a witness on the sources of a report, and its status."""
-    with Copy(report, program) as copy:
+def replayed(report, text, words):
+    """What racer, by the program and further words, says of a witness on the sources of a report, and its status."""
+    with Copy(report, words) as copy:
         return copy.replay(text)
 
 
@@ -66,7 +66,7 @@ def agreed_leg(copy, witness, number, turns):
     return {**leg, "turns": text, "steps": leg["steps"] - was + now}
 
 
-def agreed(report, warning, program):
+def agreed(report, warning, words):
     """A witness of a warning whose turns agree, and which still races; or nothing, and why there is none."""
     turns, witness = Turns(), warning["mark"]["witness"]
     told = [turns.of_leg(report, warning, leg) for leg in witness["legs"]]
@@ -75,7 +75,7 @@ def agreed(report, warning, program):
     if not any(contradicting(found) for found in told):
         return witness, ""
     made = {**witness, "legs": list(witness["legs"])}
-    with Copy(report, program) as copy:
+    with Copy(report, words) as copy:
         for number, (leg, found) in enumerate(zip(witness["legs"], told)):
             if not contradicting(found):
                 continue

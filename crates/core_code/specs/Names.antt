@@ -1,5 +1,6 @@
 -- A contract of a public call rests on this: `Program::of`. What holds of the names in every program.
-use Rattle.std.specs.Prelude.{ℕ, Bool, true, ◌&&◌, not, List, [], ◌∷◌, filter, is_none, length, nat_eq}
+use Rattle.std.specs.Prelude.{ℕ, ◌-◌, Bool, true, ◌&&◌, ◌||◌, not, List, [], ◌∷◌, ◌++◌, bytes_eq, codes, filter}
+use Rattle.std.specs.Prelude.{is_none, length, nat_eq, take}
 use Rattle.std.specs.List.{list_all}
 use Rattle.std.specs.Cmp.Lexicographic.{pointwise}
 use Rattle.racer_base.specs.Name.{is_word, is_listed, keywords, fixed_words}
@@ -12,10 +13,21 @@ use Rattle.core_code.specs.Core.{Core, Method}
 abbrev pub is_identifier : List ℕ → Bool
 is_identifier text = is_word text && not (is_listed keywords text) && not (is_listed fixed_words text)
 
--- The name of a field is an identifier. What else is known of it: the law `field_names_stand_in_texts`.
+-- The name of a field is an identifier, that of the content of a container the identifier of the container's field and
+-- `[]`. What else is known of it: the law `field_names_stand_in_texts`.
+
+abbrev pub content_name : List ℕ → List ℕ
+content_name name = name ++ codes "[]"
+
+-- without its last two bytes
+abbrev pub front_name : List ℕ → List ℕ
+front_name text = take (length text - 2) text
+
+abbrev pub is_content_name : List ℕ → Bool
+is_content_name text = is_identifier (front_name text) && bytes_eq text (content_name (front_name text))
 
 abbrev pub is_field_name : List ℕ → Bool
-is_field_name text = is_identifier text
+is_field_name text = is_identifier text || is_content_name text
 
 -- The names of classes are identifiers, those of fields names of fields.
 

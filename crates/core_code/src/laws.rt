@@ -21,7 +21,7 @@ ghost use Rattle.core_code.specs.Pair.{with_method, class_pair, field_a, field_b
 ghost use Rattle.core_code.specs.Pair.{call_put, unread_put, after_call, own_sync, returned, thrown, with_parameters};
 ghost use Rattle.core_code.specs.CallFacts.{do_end_by_return, are_calls_right, has_ranks};
 ghost use Rattle.core_code.specs.KindCheck.{are_kinded};
-ghost use Rattle.core_code.specs.Names.{is_identifier, is_field_name, are_names_right};
+ghost use Rattle.core_code.specs.Names.{is_identifier, is_field_name, content_name, are_names_right, same_text};
 ghost use Rattle.core_code.specs.Names.{do_classes_differ, do_fields_differ};
 ghost use Rattle.core_code.specs.Names.{do_methods_differ};
 
@@ -86,9 +86,15 @@ pub fn names_of_programs()
 {}
 
 /// The name of a field is not empty, and neither a dot (byte 46) nor a number sign (byte 35) is in it, so that it can
-/// be read back from a text where these stand round it.
+/// be read back from a text where these stand round it. That of the content of a container tells the container's name,
+/// and is no identifier.
 pub fn field_names_stand_in_texts()
     ensures not_empty { is_field_name [] ≡ false }
+    ensures content { is_field_name (codes "names[]") ≡ true }
+    ensures no_content { is_field_name (codes "[]") ≡ false }
+    ensures of_identifiers { (name : List ℕ) → is_field_name (content_name name) ≡ is_identifier name }
+    ensures contents_differ { (name other : List ℕ) → IsTrue (is_identifier name) →
+        same_text name (content_name other) ≡ false }
     ensures no_dot { (name : List ℕ) → IsTrue (is_field_name name) → All (λ b. nat_eq b 46 ≡ false) name }
     ensures no_number_sign { (name : List ℕ) → IsTrue (is_field_name name) → All (λ b. nat_eq b 35 ≡ false) name }
 {}

@@ -1,10 +1,10 @@
-//! Classes, fields and names of files.
+//! Classes and names of files.
 ghost use Rattle.std.specs.Prelude.{◌≡◌, IfOk, map};
 ghost use Rattle.std.specs.String.{string_bytes};
-ghost use Rattle.core_lowering_rules.specs.Programs.{class_core, field_core};
+ghost use Rattle.core_lowering_rules.specs.Programs.{class_core};
 
-use core_code::{ClassCore, FieldCore};
-use java_resolver::{ClassInfo, FieldInfo};
+use core_code::ClassCore;
+use java_resolver::ClassInfo;
 use racer_base::{Items, Memory, Text};
 use std::alloc::Global;
 
@@ -38,27 +38,4 @@ pub(crate) fn classes(alloc: Global, infos: &[ClassInfo]) -> Result<Items<ClassC
         classes.push(class(alloc, info)?)?;
     }
     Ok(classes)
-}
-
-fn field(alloc: Global, info: &FieldInfo) -> Result<FieldCore, Memory>
-    ensures { IfOk result (λ field. field ≡ field_core info.now) }
-{
-    Ok(FieldCore {
-        class: info.class,
-        name: Text::from_str(alloc, info.name.as_str())?,
-        kind: info.kind,
-        is_static: info.is_static,
-        recorded: !info.is_volatile && !info.is_final,
-    })
-}
-
-/// The fields; accesses of volatile and of final ones are not recorded.
-pub(crate) fn fields(alloc: Global, infos: &[FieldInfo]) -> Result<Items<FieldCore>, Memory>
-    ensures { IfOk result (λ fields. fields ≡ map field_core infos.now) }
-{
-    let mut fields = Items::new(alloc);
-    for info in infos {
-        fields.push(field(alloc, info)?)?;
-    }
-    Ok(fields)
 }

@@ -1,5 +1,6 @@
 -- A contract of a public call rests on this: where a method begins, and what is left of the variables in scope.
 use Rattle.std.specs.Prelude.{ℕ, Bool, true, false, List, [], ◌∷◌, Option, take, if◌then◌else◌}
+use Rattle.container_cells.specs.declared.cell.Cell.{Cell}
 use Rattle.racer_base.specs.declared.ids.ClassId.{ClassId}
 use Rattle.racer_base.specs.declared.ids.Kind.{Kind}
 use Rattle.racer_base.specs.declared.ids.Kind.TheVariants.{Declared}
@@ -12,11 +13,11 @@ use Rattle.core_lowering_rules.specs.Methods.{Source, entered, parameters_declar
 use Rattle.core_lowering_context.specs.Views.{folder_of}
 
 -- where a method of a class begins, before its parameters
-abbrev pub entered_in : Table → List (Option Reason) → Place → Result → Kind → ClassId → (is_static : Bool) →
-    (hidden : List (List ℕ)) → Context
-entered_in table statuses place result given class is_static hidden =
+abbrev pub entered_in : Table → List (Option Cell) → List (Option Reason) → Place → Result → Kind → ClassId →
+    (is_static : Bool) → (hidden : List (List ℕ)) → Context
+entered_in table cells statuses place result given class is_static hidden =
     record {
-      folder = folder_of table statuses;
+      folder = folder_of table cells statuses;
       place = place;
       result = result;
       given = given;

@@ -1,6 +1,7 @@
 -- A contract of a public call rests on this: what is seen of kinds of values, of what a method gives and of
 -- a folder.
 use Rattle.std.specs.Prelude.{List, Option}
+use Rattle.container_cells.specs.declared.cell.Cell.{Cell}
 use Rattle.core_code.specs.declared.code.Reason.{Reason}
 use Rattle.java_resolver.specs.declared.table.Table.{Table}
 use Rattle.java_resolver.specs.Table.{classes, fields, methods}
@@ -20,6 +21,13 @@ given_of given.Itself = Itself
 given_of given.Nothing = Nothing
 given_of (given.Value kind) = Value kind
 
-abbrev pub folder_of : Table → List (Option Reason) → Folder
-folder_of table statuses =
-    record { classes = classes table; fields = fields table; methods = methods table; statuses = statuses }
+-- with cells beside the fields
+abbrev pub folder_of : Table → List (Option Cell) → List (Option Reason) → Folder
+folder_of table cells statuses =
+    record {
+      classes = classes table;
+      fields = fields table;
+      cells = cells;
+      methods = methods table;
+      statuses = statuses;
+    }

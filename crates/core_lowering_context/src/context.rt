@@ -10,6 +10,7 @@ ghost use Rattle.core_lowering_rules.specs.Context.{type_kind, variable_kind_in,
 ghost use Rattle.core_lowering_rules.specs.Expressions.{is_own_class};
 ghost use Rattle.core_lowering_rules.specs.Methods.{outside_methods};
 ghost use Rattle.core_lowering_rules.specs.Assignments.{field_at};
+ghost use Rattle.core_lowering_rules.specs.Touches.{cell_at};
 ghost use Rattle.core_lowering_rules.specs.Calls.{info_at};
 ghost use Rattle.core_lowering_rules.specs.Scopes.{declared, next_variable, is_closed_by};
 ghost use Rattle.core_lowering_context.specs.Drafts.{code_of};
@@ -24,6 +25,7 @@ use crate::numbers::number_of;
 use crate::targets::{Guard, Target};
 use crate::value_kind::{ValueKind, is_converted};
 use crate::variables::Variables;
+use container_cells::Cell;
 use core_code::{Op, Reason};
 use java_resolver::{FieldInfo, Hidden, Meaning, MethodInfo, Table, VariableKind};
 use java_tree::{Ident, TypeTree};
@@ -31,13 +33,15 @@ use racer_base::{ClassId, FieldId, Items, Kind, Memory, MethodId, Place, Text, V
 use std::alloc::Global;
 use std::marker::Model;
 
-/// The folder and why its methods are not analysed; of the method its place, what it gives, its class, whether it is
-/// static and which names mean no class in it; the variables in scope; the kinds of all variables so far; how many
-/// exits are open; the labels of the statement that comes, where jumps and where returns lead, the innermost last;
-/// whether a lock so far is that of no lock field, and whether something so far sets the method apart.
+/// The folder, the cells of its containers, and why its methods are not analysed; of the method its place, what it
+/// gives, its class, whether it is static and which names mean no class in it; the variables in scope; the kinds of all
+/// variables so far; how many exits are open; the labels of the statement that comes, where jumps and where returns
+/// lead, the innermost last; whether a lock so far is that of no lock field, and whether something so far sets the
+/// method apart.
 #[derive(Drop)]
 pub struct Context<'a> {
     table: &'a Table,
+    cells: &'a [Option<Cell>],
     statuses: &'a [Option<Reason>],
     place: Place,
     result: MethodResult,
@@ -65,7 +69,7 @@ impl<'a> Model for Context<'a> {
     ghost Value = { Context };
 
     ghost view = { λ context. record {
-      folder = folder_of context.table.now context.statuses.now;
+      folder = folder_of context.table.now context.cells.now context.statuses.now;
       place = context.place;
       result = given_of context.result;
       given = context.given;
@@ -90,6 +94,7 @@ impl<'a> Context<'a> {
     pub fn new(
         alloc: Global,
         table: &'a Table,
+        cells: &'a [Option<Cell>],
         statuses: &'a [Option<Reason>],
         place: Place,
         method_result: MethodResult,
@@ -99,7 +104,8 @@ impl<'a> Context<'a> {
         hidden: &'a Hidden,
     ) -> Result<Context<'a>, Memory>
         ensures { IfOk result (λ context. context
-            ≡ entered_in table.now statuses.now place (given_of method_result) given class is_static hidden.now) }
+            ≡ entered_in table.now cells.now statuses.now place (given_of method_result) given class is_static
+            hidden.now) }
     {
         let mut kinds = Vec::new(alloc);
         if !is_static {
@@ -107,6 +113,7 @@ impl<'a> Context<'a> {
         }
         Ok(Context {
             table,
+            cells,
             statuses,
             place,
             result: method_result,
@@ -200,6 +207,16 @@ impl<'a> Context<'a> {
         ensures { option_copied result ≡ field_at self.now f }
     {
         self.table.fields().get(f.0 as usize)
+    }
+
+    /// The cell of a field that is a container.
+    pub fn cell(&self, f: FieldId) -> Option<Cell>
+        ensures { result ≡ cell_at self.now f }
+    {
+        match self.cells.get(f.0 as usize) {
+            Some(cell) => *cell,
+            None => None,
+        }
     }
 
     /// What is known of a method.

@@ -11,6 +11,7 @@ ghost use Rattle.core_lowering_context.specs.Views.{given_of, folder_of};
 use crate::context::Context;
 use crate::given::MethodResult;
 use crate::sources::{Body, Source};
+use container_cells::Cell;
 use core_code::Reason;
 use java_resolver::{MethodInfo, Table};
 use java_tree::{MethodTree, ParameterTree, ResultTree};
@@ -43,16 +44,19 @@ fn given_by(info: &MethodInfo, body: &Body) -> MethodResult
 pub fn enter<'a>(
     alloc: Global,
     table: &'a Table,
+    cells: &'a [Option<Cell>],
     statuses: &'a [Option<Reason>],
     source: &Source<'a>,
 ) -> Result<Context<'a>, Memory>
-    ensures { IfOk result (λ context. context ≡ entered (folder_of table.now statuses.now) (source_of source.now)) }
+    ensures { IfOk result (λ context. context
+        ≡ entered (folder_of table.now cells.now statuses.now) (source_of source.now)) }
 {
     let info = source.info;
     let given = given_by(info, &source.body);
     Context::new(
         alloc,
         table,
+        cells,
         statuses,
         info.place,
         given,
@@ -105,14 +109,15 @@ fn declare_parameters(
 pub fn enter_spelled<'a>(
     alloc: Global,
     table: &'a Table,
+    cells: &'a [Option<Cell>],
     statuses: &'a [Option<Reason>],
     source: &Source<'a>,
     m: &MethodTree,
 ) -> Result<Context<'a>, Memory>
     ensures { IfOk result (λ context. context
-        ≡ inside (folder_of table.now statuses.now) (source_of source.now) m.now) }
+        ≡ inside (folder_of table.now cells.now statuses.now) (source_of source.now) m.now) }
 {
-    let mut context = enter(alloc, table, statuses, source)?;
+    let mut context = enter(alloc, table, cells, statuses, source)?;
     declare_parameters(alloc, &mut context, m.parameters.as_slice())?;
     Ok(context)
 }

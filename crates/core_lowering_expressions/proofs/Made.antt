@@ -1,6 +1,6 @@
 -- The code of expressions and their kinds, of what the parts made.
-use Rattle.std.proofs.Common.{◌≡◌, ℕ, Bool, true, false, cond, List, [], ◌++◌, Option, Some, None, length, map, refl}
-use Rattle.std.proofs.Common.{sym, ap, ◌∙◌, append_assoc}
+use Rattle.std.proofs.Common.{◌≡◌, ℕ, suc, Bool, true, false, cond, List, [], ◌++◌, Option, Some, None, length, map}
+use Rattle.std.proofs.Common.{refl, sym, ap, ◌∙◌, append_assoc}
 use Rattle.std.proofs.lemmas.List.{length-map, append-nil}
 use Rattle.racer_base.specs.declared.ids.ClassId.{ClassId}
 use Rattle.racer_base.specs.declared.ids.Kind.{Kind}
@@ -24,7 +24,12 @@ use Rattle.core_lowering_rules.specs.ValueKinds.{ValueKind, Of}
 use Rattle.core_lowering_rules.specs.Context.{Context, Code, op, op_at, choice, type_kind}
 use Rattle.core_lowering_rules.specs.Assignments.{Storage, read, counted, selected, of_class, of_value}
 use Rattle.core_lowering_rules.specs.Calls.{own_callee, callee_on, callee_of_value, result_kind, called_on}
-use Rattle.core_lowering_rules.specs.Expressions.{code, kind, access_kind, storage, passed, items_code, class_before}
+use Rattle.core_lowering_rules.specs.Touches.{touched_in, touch, container_in}
+use Rattle.core_lowering_rules.specs.Expressions.{code, kind, access_kind, storage, stored, passed, items_code}
+use Rattle.core_lowering_rules.specs.Expressions.{class_before}
+use Rattle.core_lowering_rules.specs.Statements.{run, gone_over}
+use Rattle.core_lowering_touches.specs.declared.touches.Touched.{Touched}
+use Rattle.core_lowering_touches.specs.Touching.{fetched}
 use Rattle.core_lowering_expressions.specs.declared.storage.Storage.{Storage as CodeStorage}
 use Rattle.core_lowering_expressions.specs.declared.calls.Callee.{Callee as CodeCallee}
 use Rattle.core_lowering_expressions.specs.declared.calls.Target.{Target}
@@ -37,12 +42,15 @@ use Rattle.core_lowering_expressions.specs.Parts.{callee_seen, passed_kinds, cal
 use Rattle.core_lowering_expressions.specs.Parts.{value_call_end, class_callee, class_call, class_call_kind}
 use Rattle.core_lowering_expressions.specs.Parts.{maker_of, made_front, made_kinds, made_end}
 use Rattle.core_lowering_expressions.specs.Together.{assign_front, assign_end, operator_front, operator_end}
-use Rattle.core_lowering_expressions.specs.Together.{target_callee}
+use Rattle.core_lowering_expressions.specs.Together.{target_callee, touching_call}
 use Rattle.core_lowering_expressions.specs.Together.{target_front, target_end, target_call, target_kind, called_behind}
 use Rattle.core_lowering_expressions.proofs.AccessParts.{read-parts, assigned-parts, combined-parts, counted-parts}
 use Rattle.core_lowering_expressions.proofs.AccessParts.{kind-stored, value-behind, value-same}
 use Rattle.core_lowering_expressions.proofs.CallParts.{called-parts, value-called-parts, made-parts, count-packed}
 use Rattle.core_lowering_expressions.proofs.CallParts.{count-packed-inits}
+use Rattle.core_lowering_expressions.specs.Containers.{is_access, touched_by, then_looked_over}
+use Rattle.core_lowering_expressions.proofs.TouchParts.{is-read, class-untouched, untouched-parts}
+use Rattle.core_lowering_expressions.proofs.TouchParts.{either_call, touching-parts, over, over-parts}
 use Rattle.core_lowering_expressions.proofs.Joined.{two, three}
 
 -- ---- accesses
@@ -226,11 +234,24 @@ pub call-kind : (context : Context) (t : Target) (x : Ident) (callee : CodeCalle
 call-kind context t x callee all n k many is kinds =
     kinds ∙ ap (result_kind context) (is ∙ ap (target_callee context t x) (many ∙ counts all))
 
+-- where nothing is touched
+untouched-call : (context : Context) (e : Expr) (x : Ident) (es : Exprs) →
+    None ≡ touched_in context (stored context e) x (count_exprs es) →
+    called_on context x.place (class_before context e) (code context e) (count_exprs es)
+    (λ kinds. passed context kinds es) (callee_on context (class_before context e) (kind context e) x (count_exprs es))
+    ≡ code context (CallOn e x es)
+untouched-call context e x es is =
+    let n = count_exprs es in
+    ap (either_call context x.place n (passed context [] es) (called_on context x.place (class_before context e)
+    (code context e) n (λ kinds. passed context kinds es) (callee_on context (class_before context e) (kind context e)
+    x n))) is
+
 pub on-class : (context : Context) (e : Expr) (x : Ident) (es : Exprs) (c : ClassId) → Some c ≡ class_before context e →
     class_call context c x es ≡ code context (CallOn e x es)
 on-class context e x es c is =
     ap (λ o. called_on context x.place o (code context e) (count_exprs es) (λ kinds. passed context kinds es)
     (callee_on context o (kind context e) x (count_exprs es))) is
+    ∙ untouched-call context e x es (class-untouched context e x (count_exprs es) c is)
 
 pub on-class-kind : (context : Context) (e : Expr) (x : Ident) (es : Exprs) (c : ClassId) →
     Some c ≡ class_before context e → class_call_kind context c x es ≡ kind context (CallOn e x es)
@@ -238,9 +259,10 @@ on-class-kind context e x es c is =
     ap (λ o. result_kind context (callee_on context o (kind context e) x (count_exprs es))) is
 
 pub on-object : (context : Context) (e : Expr) (x : Ident) (es : Exprs) (given : CodeKind) (old one new : Code) →
-    None ≡ class_before context e → one ≡ old ++ code context e → value_kind given ≡ kind context e →
+    None ≡ class_before context e → None ≡ touched_in context (stored context e) x (count_exprs es) →
+    one ≡ old ++ code context e → value_kind given ≡ kind context e →
     new ≡ one ++ target_call context (target.Value given) x es → new ≡ old ++ code context (CallOn e x es)
-on-object context e x es given old one new is p kinds q =
+on-object context e x es given old one new is untouched p kinds q =
     let n = count_exprs es in
     let m = callee_of_value context (kind context e) x n in
     two old one new (code context e) (called_behind context x.place m es) p
@@ -248,6 +270,7 @@ on-object context e x es given old one new is p kinds q =
     ∙ ap (λ y. old ++ y) (sym (value-called-parts context x.place (code context e) n (λ ks. passed context ks es) m))
     ∙ ap (λ o. old ++ called_on context x.place o (code context e) n (λ ks. passed context ks es)
     (callee_on context o (kind context e) x n)) is
+    ∙ ap (λ y. old ++ y) (untouched-call context e x es untouched)
 
 pub on-object-kind : (context : Context) (e : Expr) (x : Ident) (es : Exprs) (given : CodeKind) →
     None ≡ class_before context e → value_kind given ≡ kind context e →
@@ -255,6 +278,92 @@ pub on-object-kind : (context : Context) (e : Expr) (x : Ident) (es : Exprs) (gi
 on-object-kind context e x es given is kinds =
     ap (λ g. result_kind context (callee_of_value context g x (count_exprs es))) kinds
     ∙ ap (λ o. result_kind context (callee_on context o (kind context e) x (count_exprs es))) is
+
+-- ---- calls on what is written as an access
+
+module _ (context : Context) (e : Expr) (x : Ident) (all : List Expression) (t : CodeStorage) (n : ℕ)
+    (formed : is_access e ≡ true) (many : n ≡ length all)
+    (same : t ≡ without_base (storage context (access_of e))) where
+  touches-same : touched_by context t x n
+      ≡ touched_by context (without_base (storage context (access_of e))) x (count_exprs (pack_exprs (map expr_of all)))
+  touches-same =
+      ap (λ s. touched_by context s x n) same
+      ∙ ap (touched_by context (without_base (storage context (access_of e))) x) (many ∙ counts all)
+
+  stored-kind : (given : CodeKind) → value_kind given ≡ storage_kind t → value_kind given ≡ kind context e
+  stored-kind given kinds =
+      kind-made context (access_of e) t (value_kind given) same kinds ∙ ap (kind context) (sym (is-read e formed))
+
+  pub on-container : (found : Touched) (old one new : Code) → one ≡ old ++ base_of (storage context (access_of e)) →
+      Some found ≡ touched_by context t x n →
+      new ≡ one ++ touching_call context x.place found (pack_exprs (map expr_of all)) →
+      new ≡ old ++ code context (CallOn e x (pack_exprs (map expr_of all)))
+  on-container found old one new p is q =
+      let es = pack_exprs (map expr_of all) in
+      let k = count_exprs es in
+      let s = storage context (access_of e) in
+      let other = called_on context x.place (class_before context e) (code context e) k (λ ks. passed context ks es)
+      (callee_on context (class_before context e) (kind context e) x k) in
+      two old one new (base_of s) (touching_call context x.place found es) p q
+      ∙ ap (λ y. old ++ y) (sym (touching-parts context x.place k (passed context [] es) other s x found
+      (is ∙ touches-same)))
+      ∙ ap (λ (y : Expr). old ++ either_call context x.place k (passed context [] es) other
+      (touched_in context (stored context y) x k)) (sym (is-read e formed))
+
+  pub on-access : (given : CodeKind) (old one second new : Code) → None ≡ class_before context e →
+      one ≡ old ++ base_of (storage context (access_of e)) → None ≡ touched_by context t x n →
+      second ≡ one ++ then_read context t → value_kind given ≡ storage_kind t →
+      new ≡ second ++ target_call context (target.Value given) x (pack_exprs (map expr_of all)) →
+      new ≡ old ++ code context (CallOn e x (pack_exprs (map expr_of all)))
+  on-access given old one second new none p is q kinds r =
+      let es = pack_exprs (map expr_of all) in
+      on-object context e x es given old second new none
+      (untouched-parts context (storage context (access_of e)) x (count_exprs es) (is ∙ touches-same)
+      ∙ ap (λ (y : Expr). touched_in context (stored context y) x (count_exprs es)) (sym (is-read e formed)))
+      (read-made context (storage context (access_of e)) t old one second p same q
+      ∙ ap (λ (y : Expr). old ++ code context y) (sym (is-read e formed)))
+      (stored-kind given kinds) r
+
+  pub on-access-kind : (given : CodeKind) → None ≡ class_before context e → value_kind given ≡ storage_kind t →
+      target_kind context (target.Value given) x (pack_exprs (map expr_of all))
+      ≡ kind context (CallOn e x (pack_exprs (map expr_of all)))
+  on-access-kind given none kinds =
+      on-object-kind context e x (pack_exprs (map expr_of all)) given none (stored-kind given kinds)
+
+  pub on-container-kind : (given : CodeKind) → None ≡ class_before context e → value_kind given ≡ storage_kind t →
+      result_kind context (target_callee context (target.Value given) x n)
+      ≡ kind context (CallOn e x (pack_exprs (map expr_of all)))
+  on-container-kind given none kinds =
+      ap (λ j. result_kind context (target_callee context (target.Value given) x j)) (many ∙ counts all)
+      ∙ on-access-kind given none kinds
+
+pub touching-made : (context : Context) (place : Place) (t : Touched) (all : List Expression) (n : ℕ)
+    (old one second new : Code) → n ≡ length all → one ≡ old ++ fetched context t →
+    second ≡ one ++ passed context [] (pack_exprs (map expr_of all)) →
+    new ≡ second ++ op context (Outside (suc n)) ++ touch context place t.content t.touch →
+    new ≡ old ++ touching_call context place t (pack_exprs (map expr_of all))
+touching-made context place t all n old one second new many p q r =
+    let es = pack_exprs (map expr_of all) in
+    let last = touch context place t.content t.touch in
+    let end = op context (Outside (suc (count_exprs es))) ++ last in
+    two old one new (fetched context t) (passed context [] es ++ end) p
+    (two one second new (passed context [] es) end q
+    (r ∙ append_assoc second (op context (Outside (suc n))) last
+    ∙ ap (λ j. second ++ (op context (Outside (suc j)) ++ last)) (many ∙ counts all)))
+
+-- ---- what a `for` goes over
+
+pub access-over : (context : Context) (e : Expr) (t : CodeStorage) (old one second new : Code) → is_access e ≡ true →
+    one ≡ old ++ base_of (storage context (access_of e)) → t ≡ without_base (storage context (access_of e)) →
+    second ≡ one ++ then_looked_over context t → new ≡ second ++ op context Drop → new ≡ old ++ gone_over context e
+access-over context e t old one second new formed p same q r =
+    let s = storage context (access_of e) in
+    two old one new (base_of s) (then_looked_over context (without_base s) ++ op context Drop) p
+    (two one second new (then_looked_over context (without_base s)) (op context Drop)
+    (q ∙ ap (λ u. one ++ then_looked_over context u) same) r)
+    ∙ ap (λ y. old ++ y) (sym (over-parts context s))
+    ∙ ap (λ (y : Expr). old ++ over context (run context y) (container_in context (stored context y)))
+    (sym (is-read e formed))
 
 -- ---- object creations
 

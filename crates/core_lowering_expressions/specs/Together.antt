@@ -1,13 +1,16 @@
 -- No public contract rests on this: forms whose code is made together, in the parts in which it is made.
-use Rattle.std.specs.Prelude.{ℕ, Bool, [], ◌++◌, if◌then◌else◌}
+use Rattle.std.specs.Prelude.{ℕ, suc, Bool, [], ◌++◌, if◌then◌else◌}
 use Rattle.racer_base.specs.declared.ids.Place.{Place}
-use Rattle.core_code.specs.declared.code.Op.TheVariants.{Prim}
+use Rattle.core_code.specs.declared.code.Op.TheVariants.{Prim, Outside}
 use Rattle.java_tree.specs.declared.words.Ident.{Ident}
 use Rattle.core_lowering_rules.specs.Trees.{Exprs, Call, count_exprs}
 use Rattle.core_lowering_rules.specs.ValueKinds.{ValueKind}
 use Rattle.core_lowering_rules.specs.Context.{Context, Code, op, choice}
 use Rattle.core_lowering_rules.specs.Calls.{Callee, own_callee, callee_in, if_static, callee_of_value, result_kind}
+use Rattle.core_lowering_rules.specs.Touches.{touch}
 use Rattle.core_lowering_rules.specs.Expressions.{code, passed}
+use Rattle.core_lowering_touches.specs.declared.touches.Touched.{Touched}
+use Rattle.core_lowering_touches.specs.Touching.{fetched}
 use Rattle.core_lowering_expressions.specs.declared.storage.Storage.{Storage}
 use Rattle.core_lowering_expressions.specs.declared.calls.Target.{Target}
 use Rattle.core_lowering_expressions.specs.declared.calls.Target.TheVariants as target
@@ -64,3 +67,11 @@ target_call context (target.Value kind) x es =
 
 abbrev pub target_kind : Context → Target → Ident → Exprs → ValueKind
 target_kind context t x es = result_kind context (target_callee context t x (count_exprs es))
+
+-- ---- a call on a container, behind its base
+
+abbrev pub touching_call : Context → Place → Touched → Exprs → Code
+touching_call context place t es =
+    fetched context t
+    ++ (passed context [] es
+    ++ (op context (Outside (suc (count_exprs es))) ++ touch context place t.content t.touch))

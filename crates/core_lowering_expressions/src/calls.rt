@@ -120,6 +120,13 @@ fn result_kind(context: &Context, callee: Callee) -> ValueKind
     }
 }
 
+/// The kind of the value of a call with so many arguments, where this stands before the name.
+pub fn call_kind(context: &Context, target: Target, x: &Ident, count: u32) -> ValueKind
+    ensures { value_kind result ≡ result_kind context.now (target_callee context.now target x.now count) }
+{
+    result_kind(context, callee_on(context, target, x, count))
+}
+
 /// The kinds of a method's parameters.
 fn parameters_of<'b>(context: &'b Context, m: MethodId) -> &'b [Kind]
     ensures { result.now ≡ parameters_of (info_at context.now m) }

@@ -64,9 +64,9 @@ pub fn lower_expression(
     }
 }
 
-/// What an assignment stores to, behind the code of its operands.
+/// What a name, a field access or an array access is stored in, behind the code of its base or operands.
 #[cycle(lower_expressions)]
-fn lower_storage(
+pub(crate) fn lower_storage(
     alloc: Global,
     context: &Context,
     e: &Expression,

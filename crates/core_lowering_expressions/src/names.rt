@@ -11,12 +11,25 @@ ghost use Rattle.core_lowering_rules.specs.Expressions.{this_kind, this_object_o
 ghost use Rattle.core_lowering_rules.specs.Expressions.{is_value, is_evaluated, code};
 ghost use Rattle.core_lowering_context.specs.Drafts.{code_of};
 ghost use Rattle.core_lowering_context.specs.Views.{value_kind};
+ghost use Rattle.core_lowering_expressions.specs.Containers.{is_access};
 
 use core_code::Op;
 use core_lowering_context::{Context, Making, ValueKind};
 use java_resolver::Meaning;
 use java_tree::{Expression, Ident};
 use racer_base::{ClassId, Kind, Memory, VarId};
+
+/// Whether an expression is written as a name, a field access or an array access.
+pub fn is_access(e: &Expression) -> bool
+    ensures { result ≡ is_access (expr_of e.now) }
+{
+    match e {
+        Expression::Name(_) => true,
+        Expression::Field(_, _) => true,
+        Expression::Index(_, _) => true,
+        _ => false,
+    }
+}
 
 /// The class that a name means.
 fn class_meant(meaning: Meaning) -> Option<ClassId>

@@ -1,13 +1,16 @@
 -- No public contract rests on this: two small classes on which the lowering is tried, and code as it is shown:
 --     class A {
 --       int n; A next; static int s; Object any; static A last;
+--       final List list = new ArrayList(); static final Map map = new HashMap();
 --       A(int k) { .. }
 --       A f(A a, int k) { .. } static int g(A a) { .. } int u(A a) { .. } void w() { .. } int f(int k) { .. }
 --       int v(A a, int... more) { .. } static int t(int... all) { .. } int z(A a, A... more) { .. }
 --     }
 --     class B { }
--- The methods u and z are not analysed.
+-- The methods u and z are not analysed. What the two containers hold are the fields 7 and 8.
 use Rattle.std.specs.Prelude.{ℕ, Bool, true, false, List, [], ◌∷◌, Option, Some, None, codes, option_map, bytes_eq}
+use Rattle.container_cells.specs.declared.table.Family.{Family}
+use Rattle.container_cells.specs.declared.table.Family.TheVariants.{Lists, Maps}
 use Rattle.racer_base.specs.declared.ids.ClassId.{ClassId}
 use Rattle.racer_base.specs.declared.ids.Kind.{Kind}
 use Rattle.racer_base.specs.declared.ids.Kind.TheVariants.{Plain, Declared, Other}
@@ -27,6 +30,7 @@ use Rattle.core_code.specs.declared.code.Op.TheVariants as op
 use Rattle.core_code.specs.declared.code.Reason.TheVariants.{Recursive}
 use Rattle.core_code.specs.Tree.{Tree, Op, Choice, Loop, Sync, in_sequence}
 use Rattle.core_lowering_rules.specs.ValueKinds.{ValueKind}
+use Rattle.core_lowering_rules.specs.Cells.{cell}
 use Rattle.core_lowering_drafts.specs.Only.{Code}
 use Rattle.core_lowering_rules.specs.Context.{Folder, Context, Result, Itself, Nothing, Value, made}
 use Rattle.core_lowering_drafts.specs.Sites.{lock_at}
@@ -59,7 +63,12 @@ field_of name kind is_static =
       is_final = false;
       is_volatile = false;
       is_lock = false;
+      family = None;
     }
+
+abbrev pub container : List ℕ → Family → Bool → FieldInfo
+container name family is_static =
+    record (field_of name Other is_static) { is_final = true; family = Some family }
 
 abbrev pub method_of : List ℕ → List Kind → Kind → Bool → MethodInfo
 method_of name parameters result is_static =
@@ -92,7 +101,9 @@ folder =
       classes = class_of (codes "A") ∷ class_of (codes "B") ∷ [];
       fields =
           field_of (codes "n") Plain false ∷ field_of (codes "next") an_a false ∷ field_of (codes "s") Plain true
-          ∷ field_of (codes "any") Other false ∷ field_of (codes "last") an_a true ∷ [];
+          ∷ field_of (codes "any") Other false ∷ field_of (codes "last") an_a true
+          ∷ container (codes "list") Lists false ∷ container (codes "map") Maps true ∷ [];
+      cells = None ∷ None ∷ None ∷ None ∷ None ∷ Some (cell Lists 7) ∷ Some (cell Maps 8) ∷ [];
       methods =
           method_of (codes "<new>") (Plain ∷ []) an_a false ∷ method_of (codes "f") (an_a ∷ Plain ∷ []) an_a false
           ∷ method_of (codes "g") (an_a ∷ []) Plain true ∷ method_of (codes "u") (an_a ∷ []) Plain false

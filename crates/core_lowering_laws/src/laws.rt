@@ -84,6 +84,7 @@ java_parser_grammar::specs::StatementReading::block_at, // statements
 
 mod assignments;
 mod calls;
+mod containers;
 mod expressions;
 mod forms;
 mod methods;
@@ -91,6 +92,7 @@ mod statements;
 
 pub use assignments::{assignments_to_fields, assignments_to_variables, other_assignments};
 pub use calls::{calls_by_name, calls_of_objects, creations};
+pub use containers::{calls_on_containers, loops_over_containers, other_calls_on_containers};
 pub use expressions::{accesses, kinds_of_expressions, names, operators, values};
 pub use forms::{any_number_of_arguments, bodies, names_and_casts, other_types, references};
 pub use methods::{

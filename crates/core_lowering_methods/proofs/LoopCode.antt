@@ -10,7 +10,7 @@ use Rattle.core_lowering_rules.specs.Trees.{Expr, Exprs, Condition, Start, Stmt,
 use Rattle.core_lowering_rules.specs.Context.{Context, Code, ends_of, repeated, again, within}
 use Rattle.core_lowering_rules.specs.Scopes.{of_type, next_variable, started, in_loop, in_labelled}
 use Rattle.core_lowering_rules.specs.Scopes.{back_from, after}
-use Rattle.core_lowering_rules.specs.Statements.{run, run_all, tested, is_endless, broken, one_round, stmt}
+use Rattle.core_lowering_rules.specs.Statements.{run, run_all, gone_over, tested, is_endless, broken, one_round, stmt}
 use Rattle.core_lowering_parts.specs.declared.rounds.Round.{Round}
 use Rattle.core_lowering_parts.specs.StatementParts.{Becomes, closed_from, entered_for, turned, broken_at, while_loop}
 use Rattle.core_lowering_parts.specs.StatementParts.{do_loop, for_loop, each_loop, next_element}
@@ -113,15 +113,15 @@ elements-made a round v s old one second new at known here next is made =
 
 pub each-made : (a b behind : Context) (t : Ty) (x : Ident) (e : Expr) (s : Stmt) (v : VarId)
     (old one second new : Code) (n first : ℕ) → n ≡ length a.scope.variables → first ≡ length old →
-    one ≡ old ++ run a e → v ≡ next_variable a → b ≡ of_type a t 0 x → second ≡ one ++ elements b v s →
+    one ≡ old ++ gone_over a e → v ≡ next_variable a → b ≡ of_type a t 0 x → second ≡ one ++ elements b v s →
     behind ≡ back_from b (after (in_loop b) s) → Becomes first (closed_from n behind) second new →
     new ≡ old ++ stmt a (ForEach t x e s)
 each-made a b behind t x e s v old one second new n first k start runs h p is left closes =
     let inside = of_type a t 0 x in
     block-made a (back_from inside (after (in_loop inside) s)) behind old second new
-    (run a e ++ elements inside (next_variable a) s) n first k
+    (gone_over a e ++ elements inside (next_variable a) s) n first k
     (left ∙ ap (λ (y : Context). back_from y (after (in_loop y) s)) p) (inside-each a t x s) start
-    (two_pieces old one second (run a e) (elements inside (next_variable a) s) runs
+    (two_pieces old one second (gone_over a e) (elements inside (next_variable a) s) runs
     (is ∙ ap (λ (y : Context). one ++ elements y v s) p ∙ ap (λ (w : VarId). one ++ elements inside w s) h))
     closes
 

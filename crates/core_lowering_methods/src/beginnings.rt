@@ -7,6 +7,7 @@ ghost use Rattle.core_lowering_context.specs.Sources.{source_of};
 ghost use Rattle.core_lowering_context.specs.Views.{folder_of};
 ghost use Rattle.core_lowering_methods.specs.Bodies.{object_begun};
 
+use container_cells::Cell;
 use core_code::Reason;
 use core_lowering_context::{Making, Source, enter, enter_spelled};
 use core_lowering_drafts::Draft;
@@ -20,19 +21,20 @@ use std::alloc::Global;
 fn begin_object(
     alloc: Global,
     table: &Table,
+    cells: &[Option<Cell>],
     statuses: &[Option<Reason>],
     source: &Source,
     m: &MethodTree,
     making: &mut Making,
 ) -> Result<(), Memory>
     ensures { OnOk result (path.code_of making.new ≡ path.code_of making.old ++ object_begun
-        (outside_methods (inside (folder_of table.now statuses.now) (source_of source.now) m.now))
+        (outside_methods (inside (folder_of table.now cells.now statuses.now) (source_of source.now) m.now))
         source.now.members.now m.now) }
 {
     if !matches!(m.result, ResultTree::Constructor) {
         return Ok(());
     }
-    let mut bare = enter_spelled(alloc, table, statuses, source, m)?;
+    let mut bare = enter_spelled(alloc, table, cells, statuses, source, m)?;
     bare.leave_method();
     begin_members(alloc, &bare, source.members, making)
 }
@@ -41,16 +43,17 @@ fn begin_object(
 pub fn fields_of(
     alloc: Global,
     table: &Table,
+    cells: &[Option<Cell>],
     statuses: &[Option<Reason>],
     source: &Source,
     m: &MethodTree,
 ) -> Result<Draft, Memory>
     ensures { IfOk result (λ fields. fields ≡ object_begun
-        (outside_methods (inside (folder_of table.now statuses.now) (source_of source.now) m.now))
+        (outside_methods (inside (folder_of table.now cells.now statuses.now) (source_of source.now) m.now))
         source.now.members.now m.now) }
 {
     let mut making = Making::new(alloc);
-    begin_object(alloc, table, statuses, source, m, &mut making)?;
+    begin_object(alloc, table, cells, statuses, source, m, &mut making)?;
     making.taken(alloc, 0)
 }
 
@@ -58,14 +61,15 @@ pub fn fields_of(
 fn begin_default(
     alloc: Global,
     table: &Table,
+    cells: &[Option<Cell>],
     statuses: &[Option<Reason>],
     source: &Source,
     making: &mut Making,
 ) -> Result<(), Memory>
     ensures { OnOk result (path.code_of making.new ≡ path.code_of making.old ++ fields_begun
-        (entered (folder_of table.now statuses.now) (source_of source.now)) source.now.members.now) }
+        (entered (folder_of table.now cells.now statuses.now) (source_of source.now)) source.now.members.now) }
 {
-    let mut bare = enter(alloc, table, statuses, source)?;
+    let mut bare = enter(alloc, table, cells, statuses, source)?;
     bare.leave_method();
     begin_members(alloc, &bare, source.members, making)
 }
@@ -74,13 +78,14 @@ fn begin_default(
 pub fn default_fields(
     alloc: Global,
     table: &Table,
+    cells: &[Option<Cell>],
     statuses: &[Option<Reason>],
     source: &Source,
 ) -> Result<Draft, Memory>
     ensures { IfOk result (λ fields. fields ≡ fields_begun
-        (entered (folder_of table.now statuses.now) (source_of source.now)) source.now.members.now) }
+        (entered (folder_of table.now cells.now statuses.now) (source_of source.now)) source.now.members.now) }
 {
     let mut making = Making::new(alloc);
-    begin_default(alloc, table, statuses, source, &mut making)?;
+    begin_default(alloc, table, cells, statuses, source, &mut making)?;
     making.taken(alloc, 0)
 }

@@ -22,6 +22,7 @@ ghost use Rattle.core_lowering_context.specs.Views.{folder_of};
 
 use crate::beginnings::{default_fields, fields_of};
 use crate::statements::lower_block;
+use container_cells::Cell;
 use core_code::{Code, LockKind, Reason};
 use core_lowering_context::{Body, Context, Making, Source, enter, enter_spelled};
 use core_lowering_drafts::{Asked, Draft, Stop, Written};
@@ -117,12 +118,13 @@ struct Parts {
 fn parts_of(
     alloc: Global,
     table: &Table,
+    cells: &[Option<Cell>],
     statuses: &[Option<Reason>],
     source: &Source,
     m: &MethodTree,
     context: &mut Context,
 ) -> Result<Parts, Memory>
-    requires { context.old ≡ inside (folder_of table.now statuses.now) (source_of source.now) m.now }
+    requires { context.old ≡ inside (folder_of table.now cells.now statuses.now) (source_of source.now) m.now }
     ensures context { OnOk result (context.new
         ≡ back_in context.old (after_all context.old (body_of m.now))) }
     ensures fields { IfOk result (λ parts. parts.fields
@@ -132,7 +134,7 @@ fn parts_of(
         (stmts context.old (body_of m.now))) }
     ensures last { IfOk result (λ parts. parts.last ≡ returned context.old None) }
 {
-    let fields = fields_of(alloc, table, statuses, source, m)?;
+    let fields = fields_of(alloc, table, cells, statuses, source, m)?;
     let owner = owner_of(alloc, context, m)?;
     let last = last_of(alloc, context)?;
     let block = block_of(alloc, context, m)?;
@@ -291,16 +293,19 @@ fn known_code(
 fn lower_default(
     alloc: Global,
     table: &Table,
+    cells: &[Option<Cell>],
     statuses: &[Option<Reason>],
     source: &Source,
 ) -> Result<Lowered, Memory>
     ensures code { IfOk result (λ lowered. tree_of lowered.code ≡ numbered 0 (in_sequence (code_in
-        (entered (folder_of table.now statuses.now) (source_of source.now)) (source_of source.now) Default))) }
+        (entered (folder_of table.now cells.now statuses.now) (source_of source.now))
+        (source_of source.now) Default))) }
     ensures kinds { IfOk result (λ lowered. lowered.kinds ≡ kinds_in
-        (entered (folder_of table.now statuses.now) (source_of source.now)) (source_of source.now) Default) }
+        (entered (folder_of table.now cells.now statuses.now) (source_of source.now))
+        (source_of source.now) Default) }
 {
-    let fields = default_fields(alloc, table, statuses, source)?;
-    let mut context = enter(alloc, table, statuses, source)?;
+    let fields = default_fields(alloc, table, cells, statuses, source)?;
+    let mut context = enter(alloc, table, cells, statuses, source)?;
     let last = last_of(alloc, &mut context)?;
     let mut written = Written::new(alloc);
     write_all(alloc, &fields, &mut written)?;
@@ -315,20 +320,23 @@ fn lower_default(
 fn lower_spelled(
     alloc: Global,
     table: &Table,
+    cells: &[Option<Cell>],
     statuses: &[Option<Reason>],
     source: &Source,
     m: &MethodTree,
     extent: Extent,
 ) -> Result<Lowered, Memory>
     requires { is_past extent
-        ≡ wanted.is_past (entered (folder_of table.now []) (source_of source.now)) (Spelled m.now) }
+        ≡ wanted.is_past (entered (folder_of table.now cells.now []) (source_of source.now)) (Spelled m.now) }
     ensures code { IfOk result (λ lowered. tree_of lowered.code ≡ numbered 0 (in_sequence (code_in
-        (entered (folder_of table.now statuses.now) (source_of source.now)) (source_of source.now) (Spelled m.now)))) }
+        (entered (folder_of table.now cells.now statuses.now) (source_of source.now))
+        (source_of source.now) (Spelled m.now)))) }
     ensures kinds { IfOk result (λ lowered. lowered.kinds ≡ kinds_in
-        (entered (folder_of table.now statuses.now) (source_of source.now)) (source_of source.now) (Spelled m.now)) }
+        (entered (folder_of table.now cells.now statuses.now) (source_of source.now))
+        (source_of source.now) (Spelled m.now)) }
 {
-    let mut context = enter_spelled(alloc, table, statuses, source, m)?;
-    let parts = parts_of(alloc, table, statuses, source, m, &mut context)?;
+    let mut context = enter_spelled(alloc, table, cells, statuses, source, m)?;
+    let parts = parts_of(alloc, table, cells, statuses, source, m, &mut context)?;
     let code = known_code(alloc, source.info.place, m, &parts, extent)?;
     Ok(Lowered {
         code,
@@ -340,15 +348,18 @@ fn lower_spelled(
 fn lower_unspelled(
     alloc: Global,
     table: &Table,
+    cells: &[Option<Cell>],
     statuses: &[Option<Reason>],
     source: &Source,
 ) -> Result<Lowered, Memory>
     ensures code { IfOk result (λ lowered. tree_of lowered.code ≡ numbered 0 (in_sequence (code_in
-        (entered (folder_of table.now statuses.now) (source_of source.now)) (source_of source.now) Unspelled))) }
+        (entered (folder_of table.now cells.now statuses.now) (source_of source.now))
+        (source_of source.now) Unspelled))) }
     ensures kinds { IfOk result (λ lowered. lowered.kinds ≡ kinds_in
-        (entered (folder_of table.now statuses.now) (source_of source.now)) (source_of source.now) Unspelled) }
+        (entered (folder_of table.now cells.now statuses.now) (source_of source.now))
+        (source_of source.now) Unspelled) }
 {
-    let entered = enter(alloc, table, statuses, source)?;
+    let entered = enter(alloc, table, cells, statuses, source)?;
     let mut kinds = entered.into_kinds().into_vec();
     kinds.extend_from_slice(source.info.parameters.as_slice())?;
     Ok(Lowered {
@@ -361,20 +372,21 @@ fn lower_unspelled(
 pub fn lower_method(
     alloc: Global,
     table: &Table,
+    cells: &[Option<Cell>],
     statuses: &[Option<Reason>],
     source: &Source,
     extent: Extent,
 ) -> Result<Lowered, Memory>
-    requires { is_past extent ≡ is_past_limit (folder_of table.now []) (source_of source.now) }
+    requires { is_past extent ≡ is_past_limit (folder_of table.now cells.now []) (source_of source.now) }
     ensures code { IfOk result (λ lowered. tree_of lowered.code ≡ numbered 0 (in_sequence
-        (method_code (folder_of table.now statuses.now) (source_of source.now)))) }
+        (method_code (folder_of table.now cells.now statuses.now) (source_of source.now)))) }
     ensures kinds { IfOk result (λ lowered. lowered.kinds
-        ≡ method_kinds (folder_of table.now statuses.now) (source_of source.now)) }
+        ≡ method_kinds (folder_of table.now cells.now statuses.now) (source_of source.now)) }
 {
     match &source.body {
-        Body::Default => lower_default(alloc, table, statuses, source),
-        Body::Spelled(m) => lower_spelled(alloc, table, statuses, source, m, extent),
-        Body::Unspelled => lower_unspelled(alloc, table, statuses, source),
+        Body::Default => lower_default(alloc, table, cells, statuses, source),
+        Body::Spelled(m) => lower_spelled(alloc, table, cells, statuses, source, m, extent),
+        Body::Unspelled => lower_unspelled(alloc, table, cells, statuses, source),
     }
 }
 
@@ -398,22 +410,23 @@ fn plain(lowered: Lowered) -> Survey
 fn survey_spelled(
     alloc: Global,
     table: &Table,
+    cells: &[Option<Cell>],
     source: &Source,
     m: &MethodTree,
 ) -> Result<Survey, Memory>
     ensures code { IfOk result (λ survey. tree_of survey.lowered.code ≡ numbered 0 (in_sequence (code_in
-        (entered (folder_of table.now []) (source_of source.now)) (source_of source.now) (Spelled m.now)))) }
+        (entered (folder_of table.now cells.now []) (source_of source.now)) (source_of source.now) (Spelled m.now)))) }
     ensures kinds { IfOk result (λ survey. survey.lowered.kinds ≡ kinds_in
-        (entered (folder_of table.now []) (source_of source.now)) (source_of source.now) (Spelled m.now)) }
+        (entered (folder_of table.now cells.now []) (source_of source.now)) (source_of source.now) (Spelled m.now)) }
     ensures locks { IfOk result (λ survey. survey.has_other_lock
-        ≡ (end_of (entered (folder_of table.now []) (source_of source.now)) (Spelled m.now)).other_lock) }
+        ≡ (end_of (entered (folder_of table.now cells.now []) (source_of source.now)) (Spelled m.now)).other_lock) }
     ensures apart { IfOk result (λ survey. survey.is_apart
-        ≡ (end_of (entered (folder_of table.now []) (source_of source.now)) (Spelled m.now)).is_apart) }
+        ≡ (end_of (entered (folder_of table.now cells.now []) (source_of source.now)) (Spelled m.now)).is_apart) }
     ensures extent { IfOk result (λ survey. is_past survey.extent
-        ≡ wanted.is_past (entered (folder_of table.now []) (source_of source.now)) (Spelled m.now)) }
+        ≡ wanted.is_past (entered (folder_of table.now cells.now []) (source_of source.now)) (Spelled m.now)) }
 {
-    let mut context = enter_spelled(alloc, table, &[], source, m)?;
-    let parts = parts_of(alloc, table, &[], source, m, &mut context)?;
+    let mut context = enter_spelled(alloc, table, cells, &[], source, m)?;
+    let parts = parts_of(alloc, table, cells, &[], source, m, &mut context)?;
     let measured = measure(alloc, source.info.place, m, &parts)?;
     let has_other_lock = context.other_lock();
     let is_apart = context.is_apart();
@@ -429,21 +442,26 @@ fn survey_spelled(
 }
 
 /// What is known of a method before it is known which methods are analysed.
-pub fn survey_method(alloc: Global, table: &Table, source: &Source) -> Result<Survey, Memory>
+pub fn survey_method(
+    alloc: Global,
+    table: &Table,
+    cells: &[Option<Cell>],
+    source: &Source,
+) -> Result<Survey, Memory>
     ensures code { IfOk result (λ survey. tree_of survey.lowered.code ≡ numbered 0 (in_sequence
-        (method_code (folder_of table.now []) (source_of source.now)))) }
+        (method_code (folder_of table.now cells.now []) (source_of source.now)))) }
     ensures kinds { IfOk result (λ survey. survey.lowered.kinds
-        ≡ method_kinds (folder_of table.now []) (source_of source.now)) }
+        ≡ method_kinds (folder_of table.now cells.now []) (source_of source.now)) }
     ensures locks { IfOk result (λ survey. survey.has_other_lock
-        ≡ has_other_lock (folder_of table.now []) (source_of source.now)) }
+        ≡ has_other_lock (folder_of table.now cells.now []) (source_of source.now)) }
     ensures apart { IfOk result (λ survey. survey.is_apart
-        ≡ is_apart (folder_of table.now []) (source_of source.now)) }
+        ≡ is_apart (folder_of table.now cells.now []) (source_of source.now)) }
     ensures extent { IfOk result (λ survey. is_past survey.extent
-        ≡ is_past_limit (folder_of table.now []) (source_of source.now)) }
+        ≡ is_past_limit (folder_of table.now cells.now []) (source_of source.now)) }
 {
     match &source.body {
-        Body::Default => Ok(plain(lower_default(alloc, table, &[], source)?)),
-        Body::Spelled(m) => survey_spelled(alloc, table, source, m),
-        Body::Unspelled => Ok(plain(lower_unspelled(alloc, table, &[], source)?)),
+        Body::Default => Ok(plain(lower_default(alloc, table, cells, &[], source)?)),
+        Body::Spelled(m) => survey_spelled(alloc, table, cells, source, m),
+        Body::Unspelled => Ok(plain(lower_unspelled(alloc, table, cells, &[], source)?)),
     }
 }

@@ -14,7 +14,7 @@ ghost use Rattle.core_lowering_methods.specs.StatementSteps.{elements};
 
 use crate::statements::lower_statement;
 use core_lowering_context::{Context, Making};
-use core_lowering_expressions::lower_run;
+use core_lowering_expressions::{lower_gone_over, lower_run};
 use core_lowering_parts::{
     Round, begin_for, end_block, end_do, end_for, end_for_each, end_round, end_while, lower_next,
 };
@@ -138,7 +138,7 @@ pub fn lower_for_each(
 {
     let before = context.in_scope();
     let first = draft.len();
-    lower_run(alloc, context, e, draft)?;
+    lower_gone_over(alloc, context, e, draft)?;
     let v = context.declare(alloc, context.variable_kind(t, 0), x)?;
     lower_elements(alloc, context, s, v, draft)?;
     end_block(alloc, context, draft, before, first)

@@ -38,7 +38,7 @@ use Rattle.core_lowering_rules.proofs.TreeSteps.{OfCallLayer, OfCastLayer, OfIns
 use Rattle.core_lowering_rules.proofs.TreeSteps.{OfReferenceLayer, TreeSteps, plain_inits, expr-all, init-all}
 use Rattle.core_lowering_rules.proofs.FilledTrees.{Filled, filled, skip, skip-is, one-is, two-is, three-is}
 use Rattle.core_lowering_rules.proofs.FilledTrees.{passing-is, filled_names, then_name, called, expr, exprs, array}
-use Rattle.core_lowering_rules.proofs.FilledTrees.{inits, init, one, behind, gives, referred, refers, skip_types}
+use Rattle.core_lowering_rules.proofs.FilledTrees.{inits, init, one, gives, referred, refers, skip_types}
 use Rattle.core_lowering_rules.proofs.FilledTrees.{first_seen, skip_angled, skip_name, behind_angled}
 
 abbrev pub filling : TreeFact

@@ -27,7 +27,7 @@ use Rattle.java_tree.specs.declared.statements.ResourceTree.{ResourceTree}
 use Rattle.java_tree.specs.KeptPlaces.{Places, Marks, some_onto, each_marks, modifier_marks, no_place, no_places}
 use Rattle.java_tree.specs.KeptPlaces.{all_places, made_places, behind_places, name_or_new}
 use Rattle.java_tree.specs.KeptPlaces.{Puts, each_puts, maybe_puts, name_places, ty_places, expr_places, init_places}
-use Rattle.java_tree.specs.KeptPlaces.{array_places, variable_places, locals_places, start_places}
+use Rattle.java_tree.specs.KeptPlaces.{variable_places, locals_places, start_places}
 use Rattle.java_tree.specs.KeptPlaces.{label_places}
 use Rattle.java_tree.specs.KeptPlaces.{resource_places, resources_places}
 use Rattle.core_lowering_rules.specs.Trees.{Expr, Unknown, This, ClassOf, Read, Unary, Cast, Binary, Logical}

@@ -1,7 +1,10 @@
 -- What names, field accesses and array accesses read and store is kinded.
 use Rattle.std.proofs.Common.{◌≡◌, ℕ, suc, Bool, true, false, cond, ◌&&◌, List, [], ◌∷◌, ◌++◌}
 use Rattle.std.proofs.Common.{Option, Some, None}
-use Rattle.std.proofs.Common.{length, refl, sym, ap, ◌∙◌, subst}
+use Rattle.std.proofs.Common.{length, refl, sym, ap, ◌∙◌, subst, slice_get}
+use Rattle.std.specs.Option.{option_and_then}
+use Rattle.std.proofs.lemmas.Option.{none-some}
+use Rattle.container_cells.specs.declared.cell.Cell.{Cell}
 use Rattle.racer_base.specs.declared.ids.ClassId.{ClassId}
 use Rattle.racer_base.specs.declared.ids.FieldId.{FieldId}
 use Rattle.racer_base.specs.declared.ids.VarId.{VarId}
@@ -33,6 +36,8 @@ use Rattle.core_lowering_rules.specs.Assignments.{of_meaning, of_name}
 use Rattle.core_lowering_rules.specs.Assignments.{of_class, of_object, of_value, selected, element, read, assigned}
 use Rattle.core_lowering_rules.specs.Assignments.{combined}
 use Rattle.core_lowering_rules.specs.Assignments.{counted, field_at}
+use Rattle.core_lowering_rules.specs.Cells.{content_core}
+use Rattle.core_lowering_rules.specs.Touches.{cell_at}
 use Rattle.core_lowering_rules.specs.Programs.{field_core}
 use Rattle.core_lowering_rules.proofs.Suits.{Suits, fits-suits, suits-own}
 use Rattle.core_lowering_rules.proofs.Runs.{Runs, nothing, followed, once, outside, popped, comes}
@@ -54,16 +59,29 @@ pub record IsBase (core : Core) (m : Method) (code : Code) (field : FieldCore) :
   pub leaves : (stack : List StackKind) →
       (base : StackKind) × Runs core m code stack (base ∷ stack) × (is_base_of field base ≡ true)
 
-pub record FieldBase (core : Core) (m : Method) (f : FieldId) (kind : Kind) (base : Code) : Type 0 where
-  pub field : FieldCore
-  pub there : check.field_at core f ≡ Some field
-  pub kind_is : field.kind ≡ kind
-  pub behind : IsBase core m base field
+-- what a container holds is a field of the same base
+pub record ContentAt (core : Core) (content : FieldId) (field : FieldCore) : Type 0 where
+  pub own : FieldCore
+  pub there : check.field_at core content ≡ Some own
+  pub behind : (base : StackKind) → is_base_of field base ≡ true → is_base_of own base ≡ true
 
-abbrev pub IsStorage : Core → Method → Storage → Type 0
-IsStorage core m (InVariable v kind) = variable_at m v ≡ Some kind
-IsStorage core m (InField f kind name base) = FieldBase core m f kind base
-IsStorage core m (Elsewhere n operands) = LeavesMany core m operands n
+pub record FieldBase (core : Core) (m : Method) (context : Context) (f : FieldId) (kind : Kind) (base : Code) : Type 0
+  where
+    pub field : FieldCore
+    pub there : check.field_at core f ≡ Some field
+    pub kind_is : field.kind ≡ kind
+    pub behind : IsBase core m base field
+    pub content : (cell : Cell) → cell_at context f ≡ Some cell → ContentAt core cell.content field
+
+abbrev pub IsStorage : Core → Method → Context → Storage → Type 0
+IsStorage core m context (InVariable v kind) = variable_at m v ≡ Some kind
+IsStorage core m context (InField f kind name base) = FieldBase core m context f kind base
+IsStorage core m context (Elsewhere n operands) = LeavesMany core m operands n
+
+cell-known : (o : Option (Option Cell)) (cell : Cell) →
+    option_and_then (λ (own : Option Cell). own) o ≡ Some cell → o ≡ Some (Some cell)
+cell-known None cell e = absurd (none-some _ e)
+cell-known (Some own) cell e = ap (λ (c : Option Cell). Some c) e
 
 module _ (core : Core) (m : Method) (context : Context) (stands : Stands core m context) where
   -- ---- operations
@@ -79,7 +97,7 @@ module _ (core : Core) (m : Method) (context : Context) (stands : Stands core m 
       once core m place (Set v) (s ∷ []) (s ∷ []) stack refl refl refl
       (ap (λ (o : Option Kind). after_set o (s ∷ stack)) e ∙ ap (λ b. where_true b (s ∷ stack)) h)
 
-  gets : (place : Place) (f : FieldId) (field : FieldCore) (base : StackKind) (stack : List StackKind) →
+  pub gets : (place : Place) (f : FieldId) (field : FieldCore) (base : StackKind) (stack : List StackKind) →
       check.field_at core f ≡ Some field → is_base_of field base ≡ true →
       Runs core m (op_at place (Get f)) (base ∷ stack) (kind_of field.kind ∷ stack)
   gets place f field base stack e h =
@@ -87,7 +105,7 @@ module _ (core : Core) (m : Method) (context : Context) (stands : Stands core m 
       (ap (λ (o : Option FieldCore). after_get o (base ∷ stack)) e
       ∙ ap (λ b. where_true b (kind_of field.kind ∷ stack)) h)
 
-  puts : (place : Place) (f : FieldId) (field : FieldCore) (s base : StackKind) (stack : List StackKind) →
+  pub puts : (place : Place) (f : FieldId) (field : FieldCore) (s base : StackKind) (stack : List StackKind) →
       check.field_at core f ≡ Some field → is_base_of field base ≡ true → fits field.kind s ≡ true →
       Runs core m (op_at place (Put f)) (s ∷ base ∷ stack) (s ∷ stack)
   puts place f field s base stack e h k =
@@ -102,7 +120,7 @@ module _ (core : Core) (m : Method) (context : Context) (stands : Stands core m 
 
   -- ---- what is there
 
-  pub read-leaves : (s : Storage) → IsStorage core m s → Leaves core m (read context s) (kind_in s)
+  pub read-leaves : (s : Storage) → IsStorage core m context s → Leaves core m (read context s) (kind_in s)
   read-leaves (InVariable v kind) h =
       record { leaves = λ stack. (kind_of kind, suits-own kind, pushes context.place v kind stack h) }
   read-leaves (InField f kind name base) h =
@@ -137,7 +155,7 @@ module _ (core : Core) (m : Method) (context : Context) (stands : Stands core m 
       }
 
   -- `= e`
-  pub assigned-leaves : (s : Storage) → IsStorage core m s → (given : ValueKind) (e : Code) → Leaves core m e given →
+  pub assigned-leaves : (s : Storage) → IsStorage core m context s → (given : ValueKind) (e : Code) → Leaves core m e given →
       Leaves core m (assigned context s given e) (kind_in s)
   assigned-leaves (InVariable v kind) h given e l =
       record {
@@ -164,7 +182,7 @@ module _ (core : Core) (m : Method) (context : Context) (stands : Stands core m 
   assigned-leaves (Elsewhere n operands) h given e l = elsewhere n h l
 
   -- `op= e`
-  pub combined-leaves : (s : Storage) → IsStorage core m s → (given : ValueKind) (e : Code) → Leaves core m e given →
+  pub combined-leaves : (s : Storage) → IsStorage core m context s → (given : ValueKind) (e : Code) → Leaves core m e given →
       Leaves core m (combined context s e) (kind_in s)
   combined-leaves (InVariable v kind) h given e l =
       record {
@@ -195,7 +213,7 @@ module _ (core : Core) (m : Method) (context : Context) (stands : Stands core m 
   combined-leaves (Elsewhere n operands) h given e l = elsewhere n h l
 
   -- `++` and `--`
-  pub counted-leaves : (s : Storage) → IsStorage core m s → Leaves core m (counted context s) (Of types.Plain)
+  pub counted-leaves : (s : Storage) → IsStorage core m context s → Leaves core m (counted context s) (Of types.Plain)
   counted-leaves (InVariable v kind) h =
       record {
         leaves = λ stack.
@@ -258,14 +276,19 @@ module _ (core : Core) (m : Method) (context : Context) (stands : Stands core m 
   field-in : (x : Ident) (f : FieldId) (info : FieldInfo) (class object : Code) → field_at context f ≡ Some info →
       (info.is_static ≡ true → IsBase core m class (field_core info)) →
       (info.is_static ≡ false → IsBase core m object (field_core info)) →
-      IsStorage core m (in_field class object x f (field_at context f))
+      IsStorage core m context (in_field class object x f (field_at context f))
   field-in x f info class object there p q =
-      subst (λ o. IsStorage core m (in_field class object x f o)) (sym there)
+      subst (λ o. IsStorage core m context (in_field class object x f o)) (sym there)
       (record {
         field = field_core info;
         there = stands.known.fields f info there;
         kind_is = refl;
         behind = by-static info class object p q info.is_static refl;
+        content = λ cell e. record {
+          own = content_core info;
+          there = stands.known.cells f info cell there (cell-known (slice_get context.folder.cells f.0) cell e);
+          behind = λ base h. h;
+        };
       })
 
   class-pushed : (info : FieldInfo) (c : ClassId) → info.class ≡ c → info.is_static ≡ true →
@@ -320,7 +343,7 @@ module _ (core : Core) (m : Method) (context : Context) (stands : Stands core m 
 
   own-field : (x : Ident) (f : FieldId) →
       FieldThere context.folder.fields context.scope.class context.scope.is_static f →
-      IsStorage core m (in_field (push_own_class context) (push_this context) x f (field_at context f))
+      IsStorage core m context (in_field (push_own_class context) (push_this context) x f (field_at context f))
   own-field x f h =
       field-in x f h.info (push_own_class context) (push_this context) h.there
       (class-pushed h.info context.scope.class h.class_is) (this-pushed h.info h.class_is h.static_is)
@@ -328,23 +351,23 @@ module _ (core : Core) (m : Method) (context : Context) (stands : Stands core m 
   is-meant : (x : Ident) (o : Option ScopeVariable) (f : Option FieldId) (c : Option ClassId) →
       variable_named context.scope x.text ≡ o →
       field_named context.folder.fields context.scope.class context.scope.is_static x.text ≡ f →
-      IsStorage core m (of_meaning context x (chosen_meaning o f c))
+      IsStorage core m context (of_meaning context x (chosen_meaning o f c))
   is-meant x (Some v) f c p q = last-holds (IsVariable m) _ context.scope.variables v stands.variables p
   is-meant x None (Some f) c p q =
       own-field x f (field-there context.folder.fields context.scope.class context.scope.is_static x.text f q)
   is-meant x None None (Some c) p q = no_values
   is-meant x None None None p q = no_values
 
-  pub is-named : (x : Ident) → IsStorage core m (of_name context x)
+  pub is-named : (x : Ident) → IsStorage core m context (of_name context x)
   is-named x =
       let o = variable_named context.scope x.text in
       let f = field_named context.folder.fields context.scope.class context.scope.is_static x.text in
       let c = class_seen context.scope.hidden (class_names context.folder.classes) x.text in
-      subst (λ (mean : Meaning). IsStorage core m (of_meaning context x mean)) (sym (meaning-chosen o f c))
+      subst (λ (mean : Meaning). IsStorage core m context (of_meaning context x mean)) (sym (meaning-chosen o f c))
       (is-meant x o f c refl refl)
 
   is-of_class : (c : ClassId) (x : Ident) (o : Option FieldId) →
-      field_named context.folder.fields c true x.text ≡ o → IsStorage core m (of_class context c x o)
+      field_named context.folder.fields c true x.text ≡ o → IsStorage core m context (of_class context c x o)
   is-of_class c x None e = no_values
   is-of_class c x (Some f) e =
       let h = field-there context.folder.fields c true x.text f e in
@@ -378,7 +401,7 @@ module _ (core : Core) (m : Method) (context : Context) (stands : Stands core m 
 
   is-of_object : (c : ClassId) (e : Code) (x : Ident) (o : Option FieldId) →
       field_named context.folder.fields c false x.text ≡ o → Leaves core m e (Of (types.Declared c)) →
-      IsStorage core m (of_object context c e x o)
+      IsStorage core m context (of_object context c e x o)
   is-of_object c e x None h l = one_value l
   is-of_object c e x (Some f) h l =
       let there = field-there context.folder.fields c false x.text f h in
@@ -386,7 +409,7 @@ module _ (core : Core) (m : Method) (context : Context) (stands : Stands core m 
       (dropped e c there.info l there.class_is) (object-there e c there.info l there.class_is)
 
   is-of_value : (kind : ValueKind) (e : Code) (x : Ident) → Leaves core m e kind →
-      IsStorage core m (of_value context kind e x)
+      IsStorage core m context (of_value context kind e x)
   is-of_value value.Null e x l = one_value l
   is-of_value (Of types.Plain) e x l = one_value l
   is-of_value (Of types.Other) e x l = one_value l
@@ -394,12 +417,12 @@ module _ (core : Core) (m : Method) (context : Context) (stands : Stands core m 
       (field_named context.folder.fields c false x.text) refl l
 
   pub is-selected : (class : Option ClassId) (kind : ValueKind) (e : Code) (x : Ident) → Leaves core m e kind →
-      IsStorage core m (selected context class kind e x)
+      IsStorage core m context (selected context class kind e x)
   is-selected None kind e x l = is-of_value kind e x l
   is-selected (Some c) kind e x l = is-of_class c x (field_named context.folder.fields c true x.text) refl
 
   pub is-element : (a i : Code) {k l : ValueKind} → Leaves core m a k → Leaves core m i l →
-      IsStorage core m (element a i)
+      IsStorage core m context (element a i)
   is-element a i p q =
       record {
         leaves = λ stack.

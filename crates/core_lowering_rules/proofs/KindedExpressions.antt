@@ -23,11 +23,11 @@ use Rattle.core_lowering_rules.specs.Trees.{no_init, init_then, count_exprs, cou
 use Rattle.core_lowering_rules.specs.ValueKinds.{ValueKind, Of, common_kind}
 use Rattle.core_lowering_rules.specs.Context.{Context, Code, op, choice, push_this, type_kind}
 use Rattle.core_lowering_rules.specs.Assignments.{kind_in}
-use Rattle.core_lowering_rules.specs.Calls.{own_callee}
+use Rattle.core_lowering_rules.specs.Calls.{own_callee, callee_on, result_kind, called_on}
 use Rattle.core_lowering_rules.specs.Expressions.{class_before, class_written, class_object, this_object, this_kind}
 use Rattle.core_lowering_rules.specs.Expressions.{is_own_class, is_evaluated, referred, kind}
-use Rattle.core_lowering_rules.specs.Expressions.{access_kind, init_kind, cast, code, storage, passed, init_code}
-use Rattle.core_lowering_rules.specs.Expressions.{items_code}
+use Rattle.core_lowering_rules.specs.Expressions.{access_kind, init_kind, cast, code, stored, storage, passed}
+use Rattle.core_lowering_rules.specs.Expressions.{init_code, items_code}
 use Rattle.core_lowering_rules.proofs.Suits.{suits-common, joined_stack-top}
 use Rattle.core_lowering_rules.proofs.Runs.{nothing, followed, once, chosen, outside}
 use Rattle.core_lowering_rules.proofs.Runs.{in_turn_3}
@@ -38,6 +38,7 @@ use Rattle.core_lowering_rules.proofs.KindedAccesses.{combined-leaves, counted-l
 use Rattle.core_lowering_rules.proofs.KindedAccesses.{is-element, kind_in-selected}
 use Rattle.core_lowering_rules.proofs.KindedArguments.{PassedTo, passed-none, passed-bare, passed-kind, many-more}
 use Rattle.core_lowering_rules.proofs.KindedCalls.{is-own, called-leaves, called_on-leaves, not_made, made-leaves}
+use Rattle.core_lowering_rules.proofs.KindedTouches.{callee-suits, touched-leaves}
 
 -- the kind of what is stored
 pub storage-kind : (context : Context) (a : Access) → kind_in (storage context a) ≡ access_kind context a
@@ -217,9 +218,13 @@ module _ (core : Core) (m : Method) (context : Context) (stands : Stands core m 
         (λ kinds. passed context kinds es)
         (passed-to es) (own_callee context x (count_exprs es)) (is-own core m context stands x (count_exprs es))
     code-leaves (CallOn e x es) =
-        called_on-leaves core m context stands x (class_before context e) (kind context e) (code context e)
-        (count_exprs es)
-        (λ kinds. passed context kinds es) (passed-to es) (code-leaves e)
+        let n = count_exprs es in
+        let callee = callee_on context (class_before context e) (kind context e) x n in
+        touched-leaves core m context stands (stored context e) (is-stored e) x n (passed context [] es)
+        (called_on context x.place (class_before context e) (code context e) n (λ kinds. passed context kinds es) callee)
+        (passed-to es []) (result_kind context callee) (callee-suits context callee)
+        (called_on-leaves core m context stands x (class_before context e) (kind context e) (code context e) n
+        (λ kinds. passed context kinds es) (passed-to es) (code-leaves e))
     code-leaves (New place t es) =
         made-leaves core m context stands place (type_kind context t) (count_exprs es)
         (λ kinds. passed context kinds es)
@@ -242,7 +247,11 @@ module _ (core : Core) (m : Method) (context : Context) (stands : Stands core m 
         }
     code-leaves (Paren e) = code-leaves e
 
-    pub is-storage : (a : Access) → IsStorage core m (storage context a)
+    pub is-stored : (e : Expr) → IsStorage core m context (stored context e)
+    is-stored (Read a) = is-storage a
+    is-stored _ = no_values core m context stands
+
+    pub is-storage : (a : Access) → IsStorage core m context (storage context a)
     is-storage (Named x) = is-named core m context stands x
     is-storage (Selected e x) =
         is-selected core m context stands (class_before context e) (kind context e) (code context e) x (code-leaves e)

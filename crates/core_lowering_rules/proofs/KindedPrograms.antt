@@ -9,6 +9,7 @@ use Rattle.std.proofs.lemmas.Option.{same_Some, none-some, slice_get-map}
 use Rattle.std.proofs.lemmas.Bool.{and_from, or_right}
 use Rattle.std.proofs.Math.Bool.{and-false}
 use Rattle.racer_base.specs.declared.ids.ClassId.{ClassId}
+use Rattle.container_cells.specs.declared.cell.Containers.{Containers}
 use Rattle.racer_base.specs.declared.ids.MethodId.{MethodId}
 use Rattle.racer_base.specs.declared.ids.Kind.TheVariants as types
 use Rattle.java_tree.specs.declared.methods.MethodTree.{MethodTree}
@@ -21,7 +22,7 @@ use Rattle.java_tree.specs.declared.unit.HeadResult.TheVariants as head
 use Rattle.java_tree.specs.declared.unit.Member.{Member}
 use Rattle.java_tree.specs.declared.unit.Member.TheVariants as member
 use Rattle.java_resolver.specs.declared.infos.MethodInfo.{MethodInfo}
-use Rattle.java_resolver.specs.Declarations.{trees_of, names_of, methods_of, by_class}
+use Rattle.java_resolver.specs.Declarations.{trees_of, names_of, fields_of, methods_of, by_class}
 use Rattle.java_resolver.specs.Declarations.{method_info, default_constructor, member_methods}
 use Rattle.java_resolver.specs.Declarations.{declared_methods}
 use Rattle.java_resolver.specs.Declarations.{member_is_constructor, default_constructors, class_methods, is_constructor}
@@ -34,8 +35,9 @@ use Rattle.core_code.specs.KindCheck.{is_kinded, are_kinded}
 use Rattle.core_lowering_rules.specs.Context.{Folder}
 use Rattle.core_lowering_rules.specs.Methods.{Source, Default}
 use Rattle.core_lowering_rules.specs.Programs.{member_sources, default_sources, class_sources, sources_of}
-use Rattle.core_lowering_rules.specs.Programs.{field_core, folder_of, method_core, method_cores, program_of}
+use Rattle.core_lowering_rules.specs.Programs.{folder_of, method_core, method_cores, program_of}
 use Rattle.core_lowering_rules.proofs.FoundElements.{Each, each-append, each-flat_map, unless}
+use Rattle.core_lowering_rules.proofs.ContentFields.{content-there, field-there}
 use Rattle.core_lowering_rules.proofs.Stands.{FolderStands, HasMethod}
 use Rattle.core_lowering_rules.proofs.KindedMethods.{IsRight, IsRightResult, kinded}
 
@@ -199,12 +201,13 @@ mapped : (o : Option Source) (info : MethodInfo) → option_map known o ≡ Some
 mapped None info e = absurd (none-some _ e)
 mapped (Some s) info e = (s, refl, same_Some _ _ e)
 
-module _ (files : List (List ℕ)) (units : List unit_type.Unit) (is_recursive : MethodId → Bool) where
+module _ (containers : Containers) (files : List (List ℕ)) (units : List unit_type.Unit)
+    (is_recursive : MethodId → Bool) where
   abbrev folder : Folder
-  folder = folder_of units is_recursive
+  folder = folder_of containers units is_recursive
 
   abbrev program : Core
-  program = program_of files units is_recursive
+  program = program_of containers files units is_recursive
 
   has_method : (n : MethodId) (s : Source) (info : MethodInfo) → slice_get (sources_of units) n.0 ≡ Some s →
       s.info ≡ info → slice_get folder.statuses n.0 ≡ Some None → HasMethod program n info
@@ -240,7 +243,8 @@ module _ (files : List (List ℕ)) (units : List unit_type.Unit) (is_recursive :
   pub folder-stands : FolderStands program folder
   folder-stands =
       record {
-        fields = λ f info e. slice_get-map field_core folder.fields f.0 ∙ ap (option_map field_core) e;
+        fields = λ f info e. field-there containers folder.fields f.0 info e;
+        cells = λ f info cell e there. content-there containers (fields_of units) f.0 info cell e there;
         methods = found-method;
         unread = λ n h. unread-method (sources_of units) folder.statuses n.0 h;
         constructors = λ n info e h. each-at IsMaker (methods_of units) n.0 info (methods-makers units) e h;

@@ -26,14 +26,14 @@ use Rattle.core_lowering_rules.specs.Trees.{Switch, Locked, Try, Finally, Stmts,
 use Rattle.core_lowering_rules.specs.Trees.{group_then}
 use Rattle.core_lowering_rules.specs.Context.{Context, Guard, Result, Itself, Nothing, Value, Code, ends_of, op}
 use Rattle.core_lowering_rules.specs.Context.{type_kind, variable_kind_in, within}
-use Rattle.core_lowering_rules.specs.Expressions.{kind, init_kind}
+use Rattle.core_lowering_rules.specs.Expressions.{kind, stored, init_kind}
 use Rattle.core_lowering_rules.specs.Scopes.{next_variable, declared, all_declared, started, back_in, after, after_all}
 use Rattle.core_lowering_rules.specs.Scopes.{after_groups, new_variables, in_loop, in_switch, in_labelled, with_label}
 use Rattle.core_lowering_rules.specs.Scopes.{is_loop, break_to, continue_to, in_guard, out_of_guard, returned_variable}
 use Rattle.core_lowering_rules.specs.Scopes.{with_variable, after_return, after_last, with_resource, with_resources}
 use Rattle.core_lowering_rules.specs.Scopes.{unlocked_in, caught_behind, back_from}
-use Rattle.core_lowering_rules.specs.Statements.{run, run_all, set, begun, begun_all, start, tested, is_endless, closed}
-use Rattle.core_lowering_rules.specs.Statements.{jump, returned_nothing, returned_value, variable_in, returned, broken}
+use Rattle.core_lowering_rules.specs.Statements.{run, gone_over, run_all, set, begun, begun_all, start, tested, is_endless}
+use Rattle.core_lowering_rules.specs.Statements.{closed, jump, returned_nothing, returned_value, variable_in, returned, broken}
 use Rattle.core_lowering_rules.specs.Statements.{one_round, entered, does_fall, forked_by, has_default, last_of}
 use Rattle.core_lowering_rules.specs.Statements.{begun_resources, kept_null, stmt, stmts, options}
 use Rattle.core_lowering_rules.proofs.Suits.{suits-own}
@@ -47,7 +47,8 @@ use Rattle.core_lowering_rules.proofs.FoundElements.{Each, each-append}
 use Rattle.core_lowering_rules.proofs.Stands.{Stands, IsVariable, IsGuard, IsResult}
 use Rattle.core_lowering_rules.proofs.ScopeSteps.{sides_of, return_in}
 use Rattle.core_lowering_rules.proofs.KindedAccesses.{pushes, sets}
-use Rattle.core_lowering_rules.proofs.KindedExpressions.{code-leaves, init-leaves}
+use Rattle.core_lowering_rules.proofs.KindedTouches.{looked-runs}
+use Rattle.core_lowering_rules.proofs.KindedExpressions.{code-leaves, is-stored, init-leaves}
 use Rattle.core_lowering_rules.proofs.GrownScopes.{Grows, HasKinds, has-earlier, grows-after, grows-after_all}
 use Rattle.core_lowering_rules.proofs.GrownScopes.{grows-all}
 use Rattle.core_lowering_rules.proofs.GrownScopes.{grows-groups, grows-resources, grows-last, declared-there, each-drop}
@@ -93,6 +94,11 @@ module _ (core : Core) (m : Method) where
 
   run-keeps : (context : Context) → Stands core m context → (e : Expr) → Kept (run context e)
   run-keeps context s e = keeps-value core m (run-runs context s e)
+
+  gone-keeps : (context : Context) → Stands core m context → (e : Expr) → Kept (gone_over context e)
+  gone-keeps context s e =
+      keeps-value core m (looked-runs core m context s (stored context e) (is-stored core m context s e) (run context e)
+      (run-runs context s e))
 
   run_all-keeps : (context : Context) → Stands core m context → (es : Exprs) → Kept (run_all context es)
   run_all-keeps context s no_expr = none
@@ -379,7 +385,7 @@ module _ (core : Core) (m : Method) where
         let first = keeps-value core m (followed core m (outside core m context.place [] [] 0 refl)
         (set-drops context s (next_variable context) k Opaque (declared-there m context known x begins)
         (fits-opaque k))) in
-        closed-keeps context behind (after-stands core m inside b stands own) (both (run-keeps context s e)
+        closed-keeps context behind (after-stands core m inside b stands own) (both (gone-keeps context s e)
         (broken-keeps outer false (stmt inside b) (keeps-loop core m
         (both first (round-keeps outer (stmt-keeps inside stands b own))))))
     stmt-keeps context s (Sync place e ss) h =

@@ -47,43 +47,21 @@ use Rattle.core_lowering_rules.specs.Calls.{constructor_among}
 use Rattle.core_lowering_rules.specs.Calls.{constructor_in, made_by, made}
 use Rattle.core_lowering_rules.specs.Expressions.{class_before, class_written, class_object, this_object, is_own_class}
 use Rattle.core_lowering_rules.specs.Expressions.{is_evaluated, referred, kind, cast, code}
-use Rattle.core_lowering_rules.specs.Expressions.{storage, passed, init_code, items_code}
+use Rattle.core_lowering_rules.specs.Expressions.{stored, storage, passed, init_code, items_code}
 use Rattle.core_lowering_rules.proofs.FoundElements.{field-there}
 use Rattle.core_lowering_rules.proofs.LoweredFacts.{Tests, Grounded, Fact, is_value, joined, joined_3, joined_4, either}
 use Rattle.core_lowering_rules.proofs.LoweredFacts.{by_test, longer, shorter}
+use Rattle.core_lowering_rules.proofs.LoweredTouches.{base, with_base, IsNamePlaced, Stored, touched-holds}
 use Rattle.core_lowering_rules.proofs.PlacedTrees.{PlacedExpr, PlacedAccess, PlacedExprs, PlacedInit, PlacedInits}
 use Rattle.core_lowering_rules.proofs.StatusesUnseen.{with_statuses, named-same, selected-same, callee-same}
 use Rattle.core_lowering_rules.proofs.StatusesUnseen.{class_before-same, is_evaluated-same, kind-same}
 
--- ---- what is stored where
-
--- the code that stands before the access
-abbrev base : Storage → Code
-base (InVariable v kind) = []
-base (InField f kind name b) = b
-base (Elsewhere n operands) = operands
-
-abbrev with_base : Code → Storage → Storage
-with_base b (InVariable v kind) = InVariable v kind
-with_base b (InField f kind name c) = InField f kind name b
-with_base b (Elsewhere n operands) = Elsewhere n b
-
-abbrev IsNamePlaced : Tests → Storage → Type 0
-IsNamePlaced t (InVariable v kind) = Unit {0}
-IsNamePlaced t (InField f kind name b) = t.is_place name ≡ true
-IsNamePlaced t (Elsewhere n operands) = Unit {0}
+-- ---- what is called
 
 abbrev IsThere : Tests → Callee → Type 0
 IsThere t Missing = Unit {0}
 IsThere t (OfClass m) = t.is_method m ≡ true
 IsThere t (OfObject m) = t.is_method m ≡ true
-
--- the same but for the code of the base, of which the fact holds
-pub record Stored (f : Fact) (s t : Storage) : Type 0 where
-  pub own : Code
-  pub same : s ≡ with_base own t
-  pub holds : f.Holds own (base t)
-  pub placed : IsNamePlaced f.tests t
 
 module _ (f : Fact) (statuses : List (Option Reason)) (context : Context) (g : Grounded f.tests context) where
   abbrev other : Context
@@ -390,6 +368,30 @@ module _ (f : Fact) (statuses : List (Option Reason)) (context : Context) (g : G
   referred-holds true p = joined f p (here (Outside 1) refl)
   referred-holds false p = here (Outside 0) refl
 
+  -- a call that touches no container
+  call_on-holds : (e : Expr) (x : Ident) (es : Exprs) → IsPlace x.place → f.Holds (code other e) (code context e) →
+      ArgumentsHold (λ ks. passed other ks es) (λ ks. passed context ks es) →
+      f.Holds
+      (called_on other x.place (class_before other e) (code other e) (count_exprs es) (λ ks. passed other ks es)
+      (callee_on other (class_before other e) (kind other e) x (count_exprs es)))
+      (called_on context x.place (class_before context e) (code context e) (count_exprs es)
+      (λ ks. passed context ks es) (callee_on context (class_before context e) (kind context e) x (count_exprs es)))
+  call_on-holds e x es h p all =
+      let n = count_exprs es in
+      let c = class_before context e in
+      let callee = callee_on context c (kind context e) x n in
+      let known = called_on context x.place c (code context e) n (λ ks. passed context ks es) callee in
+      subst (λ (o : Option ClassId).
+      f.Holds (called_on other x.place o (code other e) n (λ ks. passed other ks es)
+      (callee_on other (class_before other e) (kind other e) x n)) known)
+      (sym (class_before-same statuses context e))
+      (subst (λ (r : Callee).
+      f.Holds (called_on other x.place c (code other e) n (λ ks. passed other ks es) r) known)
+      (sym (callee-same statuses context (class_before other e) c (kind other e) (kind context e) x n
+      (class_before-same statuses context e) (kind-same statuses context e)))
+      (called_on-holds x.place c (code other e) (code context e) n (λ ks. passed other ks es)
+      (λ ks. passed context ks es) callee h p all (on-there c (kind context e) x n)))
+
   mutual
     pub code-holds : (e : Expr) → PlacedExpr f.tests.is_place e → f.Holds (code other e) (code context e)
     code-holds tree.Prim h = here PushPrim refl
@@ -422,21 +424,8 @@ module _ (f : Fact) (statuses : List (Option Reason)) (context : Context) (g : G
         called-holds x.place (count_exprs es) (λ ks. passed other ks es) (λ ks. passed context ks es)
         (own_callee context x (count_exprs es)) h.0 (passed-holds es h.1) (own-there x (count_exprs es))
     code-holds (CallOn e x es) h =
-        let n = count_exprs es in
-        let c = class_before context e in
-        let callee = callee_on context c (kind context e) x n in
-        subst (λ (o : Option ClassId).
-        f.Holds (called_on other x.place o (code other e) n (λ ks. passed other ks es)
-        (callee_on other (class_before other e) (kind other e) x n)) (code context (CallOn e x es)))
-        (sym (class_before-same statuses context e))
-        (subst (λ (r : Callee).
-        f.Holds (called_on other x.place c (code other e) n (λ ks. passed other ks es) r)
-        (code context (CallOn e x es)))
-        (sym (callee-same statuses context (class_before other e) c (kind other e) (kind context e) x n
-        (class_before-same statuses context e) (kind-same statuses context e)))
-        (called_on-holds x.place c (code other e) (code context e) n (λ ks. passed other ks es)
-        (λ ks. passed context ks es) callee h.1 (code-holds e h.0) (passed-holds es h.2)
-        (on-there c (kind context e) x n)))
+        touched-holds f statuses context g (stored other e) (stored context e) (stored-holds e h.0) x (count_exprs es) h.1
+        (passed-holds es h.2 [] []) (call_on-holds e x es h.1 (code-holds e h.0) (passed-holds es h.2))
     code-holds (New place t es) h =
         made-holds place (type_kind context t) (count_exprs es) (λ ks. passed other ks es)
         (λ ks. passed context ks es) h.0 (g.known.types context.scope.hidden t) (passed-holds es h.1)
@@ -447,6 +436,10 @@ module _ (f : Fact) (statuses : List (Option Reason)) (context : Context) (g : G
     code-holds (NewItems place items) h =
         joined f (items-hold items h.1) (f.single place (Outside (count_inits items)) h.0 refl)
     code-holds (Paren e) h = code-holds e h
+
+    pub stored-holds : (e : Expr) → PlacedExpr f.tests.is_place e → Stored f (stored other e) (stored context e)
+    stored-holds (Read a) h = storage-holds a h
+    stored-holds _ h = none-stored
 
     storage-holds : (a : Access) → PlacedAccess f.tests.is_place a → Stored f (storage other a) (storage context a)
     storage-holds (Named x) h = named-stored x h

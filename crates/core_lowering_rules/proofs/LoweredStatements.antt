@@ -20,15 +20,15 @@ use Rattle.core_lowering_rules.specs.Trees.{group_then}
 use Rattle.core_lowering_rules.specs.Context.{Context, Guard, Itself, Nothing, Value, Result, Code, ends_of, op}
 use Rattle.core_lowering_rules.specs.Context.{type_kind, variable_kind_in}
 use Rattle.core_lowering_rules.specs.Context.{within, guarded}
-use Rattle.core_lowering_rules.specs.Expressions.{kind, code, init_kind}
+use Rattle.core_lowering_rules.specs.Expressions.{kind, code, stored, init_kind}
 use Rattle.core_lowering_rules.specs.Scopes.{next_variable, started, back_in, after, after_all, after_groups}
 use Rattle.core_lowering_rules.specs.Scopes.{new_variables, in_loop, in_switch, in_labelled, with_label, is_loop}
 use Rattle.core_lowering_rules.specs.Scopes.{break_to, of_type}
 use Rattle.core_lowering_rules.specs.Scopes.{continue_to, in_guard, out_of_guard, returned_variable}
 use Rattle.core_lowering_rules.specs.Scopes.{with_resource, with_resources, unlocked_in}
 use Rattle.core_lowering_rules.specs.Scopes.{caught_behind}
-use Rattle.core_lowering_rules.specs.Statements.{run, run_all, set, begun, begun_all, start, tested, is_endless, closed}
-use Rattle.core_lowering_rules.specs.Statements.{jump, returned_nothing, returned_value, variable_in, returned}
+use Rattle.core_lowering_rules.specs.Statements.{run, gone_over, run_all, set, begun, begun_all, start, tested, is_endless}
+use Rattle.core_lowering_rules.specs.Statements.{closed, jump, returned_nothing, returned_value, variable_in, returned}
 use Rattle.core_lowering_rules.specs.Statements.{broken, one_round, entered, does_fall, has_default}
 use Rattle.core_lowering_rules.specs.Statements.{begun_resource, begun_resources, last_of, kept_null, stmt, stmts}
 use Rattle.core_lowering_rules.specs.Statements.{options}
@@ -36,7 +36,8 @@ use Rattle.core_lowering_rules.proofs.LoweredFacts.{Grounded, Fact, is_named, jo
 use Rattle.core_lowering_rules.proofs.LoweredFacts.{follows_3, branches}
 use Rattle.core_lowering_rules.proofs.LoweredFacts.{again_and_again, under, by_tests, within_exit, ends_null}
 use Rattle.core_lowering_rules.proofs.LoweredFacts.{guarded_by}
-use Rattle.core_lowering_rules.proofs.LoweredExpressions.{here, conv, code-holds, init-holds}
+use Rattle.core_lowering_rules.proofs.LoweredTouches.{looked-stands}
+use Rattle.core_lowering_rules.proofs.LoweredExpressions.{here, conv, code-holds, stored-holds, init-holds}
 use Rattle.core_lowering_rules.proofs.PlacedTrees.{PlacedExpr, PlacedExprs, PlacedOption, PlacedBegin, PlacedVariables}
 use Rattle.core_lowering_rules.proofs.PlacedTrees.{PlacedStart, PlacedCondition, PlacedResources, PlacedStmt}
 use Rattle.core_lowering_rules.proofs.PlacedTrees.{PlacedStmts}
@@ -101,6 +102,13 @@ module _ (f : Fact) (statuses : List (Option Reason)) where
   run-holds : (c : Context) → Grounded f.tests c → (e : Expr) → PlacedExpr f.tests.is_place e →
       f.Holds (run (other c) e) (run c e)
   run-holds c g e h = joined f (code-holds f statuses c g e h) (here f statuses c g Drop refl)
+
+  gone-stands : (x c : Context) → Pair x c → (e : Expr) → PlacedExpr f.tests.is_place e →
+      f.Stands (gone_over x e) (gone_over c e)
+  gone-stands x c b e h =
+      moved x c b (λ y. gone_over y e)
+      (λ g. looked-stands f statuses c g (stored (other c) e) (stored c e) (stored-holds f statuses c g e h)
+      (ran c g Drop refl (code-holds f statuses c g e h)))
 
   run_all-stand : (x c : Context) → Pair x c → (es : Exprs) → PlacedExprs f.tests.is_place es →
       f.Stands (run_all x es) (run_all c es)
@@ -326,7 +334,7 @@ module _ (f : Fact) (statuses : List (Option Reason)) where
         let n = after (in_loop d) s in
         let body = stmt-stands (in_loop y) (in_loop d) inner s h.1 in
         closed-stands x c z n b (after-beside f statuses (in_loop y) (in_loop d) inner s)
-        (follows f (run-stands x c b e h.0)
+        (follows f (gone-stands x c b e h.0)
         (broken-stands y d p false body
         (again_and_again f (follows f (element-stands x c b) (round-stands y d p body)))))
     stmt-stands x c b (Sync place e ss) h =

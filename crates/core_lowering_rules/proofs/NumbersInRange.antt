@@ -2,11 +2,14 @@
 use Rattle.std.proofs.Common.{◌≡◌, ℕ, zero, suc, Bool, true, false, cond, ◌&&◌, List, [], ◌∷◌}
 use Rattle.std.proofs.Common.{Option, Some, None, map, length, refl, sym, ap, ◌∙◌, slice_get, nat_lt, arith}
 use Rattle.std.proofs.Common.{is_some, replicate}
-use Rattle.std.specs.Prelude.{option_map, bytes_eq, ◌==◌}
+use Rattle.std.specs.Prelude.{option_map, filter, bytes_eq, ◌==◌}
 use Rattle.std.specs.List.{flat_map, list_all, list_any}
 use Rattle.std.proofs.lemmas.List.{length-map}
 use Rattle.std.proofs.lemmas.Option.{same_Some, none-some}
 use Rattle.std.proofs.lemmas.Bool.{and_from, and_parts}
+use Rattle.std.proofs.lemmas.List.Folds.{list_all-append}
+use Rattle.container_cells.specs.declared.cell.Containers.{Containers}
+use Rattle.container_cells.specs.declared.cell.Containers.TheVariants.{Opaque, WithCells}
 use Rattle.racer_base.specs.declared.ids.ClassId.{ClassId}
 use Rattle.racer_base.specs.declared.ids.MethodId.{MethodId}
 use Rattle.racer_base.specs.declared.ids.Kind.{Kind}
@@ -41,6 +44,7 @@ use Rattle.core_code.specs.Facts.{is_field_in_range, is_method_in_range, are_num
 use Rattle.core_code.specs.Calls.{taken_by}
 use Rattle.core_code.specs.KindCheck.{begins_with}
 use Rattle.core_lowering_rules.specs.Context.{Folder}
+use Rattle.core_lowering_rules.specs.Cells.{is_container, content_core, contents}
 use Rattle.core_lowering_rules.specs.Scopes.{declared}
 use Rattle.core_lowering_rules.specs.Methods.{Default, Source, entered}
 use Rattle.core_lowering_rules.specs.Programs.{member_sources, default_sources, class_sources, sources_of, declared_in}
@@ -75,13 +79,13 @@ as_many-cores folder declared is_recursive n [] = refl
 as_many-cores folder declared is_recursive n (s ∷ sources) =
     ap suc (as_many-cores folder declared is_recursive (suc n) sources)
 
-module _ (files : List (List ℕ)) (units : List unit_type.Unit) (is_recursive : MethodId → Bool)
-    (placed : are_in_files files units ≡ true) where
+module _ (containers : Containers) (files : List (List ℕ)) (units : List unit_type.Unit)
+    (is_recursive : MethodId → Bool) (placed : are_in_files files units ≡ true) where
   abbrev folder : Folder
-  folder = folder_of units is_recursive
+  folder = folder_of containers units is_recursive
 
   abbrev core : Core
-  core = program_of files units is_recursive
+  core = program_of containers files units is_recursive
 
   as_many-classes : length core.classes ≡ length (trees_of units)
   as_many-classes = length-map (classes_of units) class_core ∙ length-map (trees_of units) class_info
@@ -260,7 +264,7 @@ module _ (files : List (List ℕ)) (units : List unit_type.Unit) (is_recursive :
   method-there m info e =
       let below = found-below core (methods_of units) m.0 (ap (is_some {T = MethodInfo}) e) in
       let many : length core.methods ≡ length (methods_of units) =
-      as_many-cores folder (declared_in units) is_recursive 0 (sources_of units)
+      as_many-cores folder (declared_in containers units) is_recursive 0 (sources_of units)
       ∙ sym (length-map (sources_of units) known) ∙ ap (length {A = MethodInfo}) (sources-same units) in
       ap (λ n. nat_lt m.0 n) many ∙ below
 
@@ -289,7 +293,7 @@ module _ (files : List (List ℕ)) (units : List unit_type.Unit) (is_recursive :
       let m = method_core folder s status in is_code core (length m.variables) m.code ≡ true
   code-right s status right sound put =
       let m = method_core folder s status in
-      let checked = kinded core folder (folder-stands files units is_recursive) s.info s.members status s.body right in
+      let checked = kinded core folder (folder-stands containers files units is_recursive) s.info s.members status s.body right in
       code-in_range core m
       (let made = in-holds (fact_of (fineness core)) [] (entered folder s) (grounded s sound) s put s.body put.body in
       made.fact)
@@ -341,12 +345,35 @@ module _ (files : List (List ℕ)) (units : List unit_type.Unit) (is_recursive :
       (and_from (is_class core f.class) (is_kind core f.kind) own.0 own.1)
       (fields-right fs all.1)
 
+  contents-right : (fs : List FieldInfo) → Each IsFieldThere fs →
+      list_all (is_field_in_range core) (map content_core (filter is_container fs)) ≡ true
+  contents-right [] all = refl
+  contents-right (f ∷ fs) all = by (is_container f) (contents-right fs all.1)
+    where
+      by : (b : Bool) → list_all (is_field_in_range core) (map content_core (filter is_container fs)) ≡ true →
+          list_all (is_field_in_range core)
+          (map content_core (cond b (f ∷ filter is_container fs) (filter is_container fs))) ≡ true
+      by true rest =
+          let own = all.0 in
+          and_from (is_class core f.class && true) _ (and_from (is_class core f.class) true own.0 refl) rest
+      by false rest = rest
+
+  contents-of : (c : Containers) → list_all (is_field_in_range core) (contents c (fields_of units)) ≡ true
+  contents-of Opaque = refl
+  contents-of WithCells = contents-right (fields_of units) fields-there
+
+  all-fields-right : list_all (is_field_in_range core) core.fields ≡ true
+  all-fields-right =
+      list_all-append (is_field_in_range core) (map field_core (fields_of units)) (contents containers (fields_of units))
+      ∙ and_from (list_all (is_field_in_range core) (map field_core (fields_of units))) _
+      (fields-right (fields_of units) fields-there) (contents-of containers)
+
   pub numbers-in_range : are_numbers_in_range core ≡ true
   numbers-in_range =
       let a = and_from (list_all test-here core.skipped) (list_all (is_class_in_range core) core.classes)
       (skipped-all test-here units placed) (classes-right (trees_of units) trees) in
       let b = and_from (list_all test-here core.skipped && list_all (is_class_in_range core) core.classes)
-      (list_all (is_field_in_range core) core.fields) a (fields-right (fields_of units) fields-there) in
+      (list_all (is_field_in_range core) core.fields) a all-fields-right in
       and_from
       (list_all test-here core.skipped && list_all (is_class_in_range core) core.classes
       && list_all (is_field_in_range core) core.fields)

@@ -5,6 +5,7 @@ use Rattle.std.proofs.lemmas.Bool.Decides.{nat_tests}
 use Rattle.std.specs.List.{list_all}
 use Rattle.std.specs.Option.{option_or}
 use Rattle.std.proofs.lemmas.Bool.{and_from, or_right}
+use Rattle.container_cells.specs.declared.cell.Containers.{Containers}
 use Rattle.racer_base.specs.declared.ids.MethodId.{MethodId}
 use Rattle.racer_base.specs.declared.limits.TheConstants.{MAX_PARAMETERS, MAX_LOCALS}
 use Rattle.java_tree.specs.declared.unit.Unit as unit_type
@@ -92,12 +93,13 @@ few-or_reason true unspelled count rest = refl
 few-or_reason false true count rest = refl
 few-or_reason false false count rest = few-or_more MAX_PARAMETERS count rest
 
-module _ (files : List (List ℕ)) (units : List unit_type.Unit) (is_recursive : MethodId → Bool) where
+module _ (containers : Containers) (files : List (List ℕ)) (units : List unit_type.Unit)
+    (is_recursive : MethodId → Bool) where
   abbrev folder : Folder
-  folder = folder_of units is_recursive
+  folder = folder_of containers units is_recursive
 
   abbrev program : Core
-  program = program_of files units is_recursive
+  program = program_of containers files units is_recursive
 
   -- a test that all methods pass
   all-pass : (test : Method → Bool) →
@@ -116,7 +118,7 @@ module _ (files : List (List ℕ)) (units : List unit_type.Unit) (is_recursive :
   enough s status right =
       let m = method_core folder s status in
       let keeps = method-keeps program folder
-      (folder-stands files units is_recursive) s.info s.members status s.body right
+      (folder-stands containers files units is_recursive) s.info s.members status s.body right
       in
       ap (is_some {T = ℕ})
       (height-numbered (in_sequence (method_code folder s)) 0 0 ∙ whole_high program m keeps)
@@ -126,7 +128,7 @@ module _ (files : List (List ℕ)) (units : List unit_type.Unit) (is_recursive :
   right-calls s status right =
       let m = method_core folder s status in
       let keeps = method-keeps program folder
-      (folder-stands files units is_recursive) s.info s.members status s.body right
+      (folder-stands containers files units is_recursive) s.info s.members status s.body right
       in
       calls-numbered program (in_sequence (method_code folder s)) 0 ∙ whole_calls program m keeps
 
@@ -155,13 +157,13 @@ module _ (files : List (List ℕ)) (units : List unit_type.Unit) (is_recursive :
       all-pass (may_be_entry program) entry (sources_of units) folder.statuses (sources-right units)
 
   abbrev status_by : ℕ → Source → Option Reason
-  status_by n s = status_of (declared_in units) (is_recursive (record { 0 = n })) s
+  status_by n s = status_of (declared_in containers units) (is_recursive (record { 0 = n })) s
 
   -- a method past the limit is not analysed
   large-some : (n : ℕ) (s : Source) (t : MethodTree) → s.body ≡ Spelled t →
       is_large (parameters_declared (entered folder s) t.parameters) t ≡ true → is_some (status_by n s) ≡ true
   large-some n s t is e =
-      let d = declared_in units in
+      let d = declared_in containers units in
       let past : is_past_limit d s ≡ true =
       ap (is_past (entered d s)) is
       ∙ sym (ap (λ (c : Context). is_large c t) (parameters-blind folder.statuses (entered d s) t.parameters)) ∙ e in
@@ -207,15 +209,15 @@ module _ (files : List (List ℕ)) (units : List unit_type.Unit) (is_recursive :
   ends n info members Unspelled =
       let s : Source = record { info = info; members = members; body = Unspelled } in
       ap (λ b. b || not (can_end (method_core folder s (status_by n s)).code))
-      (outside-some (is_overloaded (declared_in units).methods info)
+      (outside-some (is_overloaded (declared_in containers units).methods info)
       (option_or (where_so (nat_lt MAX_PARAMETERS (length info.parameters)) Parameters)
-      (option_or (where_so (nat_lt MAX_LOCALS (local_count (declared_in units) s)) Locals)
-      (option_or (where_so (is_past_limit (declared_in units) s) Operations)
+      (option_or (where_so (nat_lt MAX_LOCALS (local_count (declared_in containers units) s)) Locals)
+      (option_or (where_so (is_past_limit (declared_in containers units) s) Operations)
       (where_so (is_recursive (record { 0 = n })) Recursive)))))
 
   all-end : (sources : List Source) (n : ℕ) →
       list_all ends_by_return
-      (method_cores folder sources (statuses_from (declared_in units) is_recursive n sources)) ≡ true
+      (method_cores folder sources (statuses_from (declared_in containers units) is_recursive n sources)) ≡ true
   all-end [] n = refl
   all-end (s ∷ sources) n =
       and_from (ends_by_return (method_core folder s (status_by n s))) _ (ends n s.info s.members s.body)
@@ -226,15 +228,15 @@ module _ (files : List (List ℕ)) (units : List unit_type.Unit) (is_recursive :
 
   few : (n : ℕ) (s : Source) → has_few_parameters (method_core folder s (status_by n s)) ≡ true
   few n s =
-      few-or_reason (is_overloaded (declared_in units).methods s.info) (is_outside (declared_in units) s)
-      (length s.info.parameters)
-      (option_or (where_so (nat_lt MAX_LOCALS (local_count (declared_in units) s)) Locals)
-      (option_or (where_so (is_past_limit (declared_in units) s) Operations)
+      few-or_reason (is_overloaded (declared_in containers units).methods s.info)
+      (is_outside (declared_in containers units) s) (length s.info.parameters)
+      (option_or (where_so (nat_lt MAX_LOCALS (local_count (declared_in containers units) s)) Locals)
+      (option_or (where_so (is_past_limit (declared_in containers units) s) Operations)
       (where_so (is_recursive (record { 0 = n })) Recursive)))
 
   all-few : (sources : List Source) (n : ℕ) →
       list_all has_few_parameters
-      (method_cores folder sources (statuses_from (declared_in units) is_recursive n sources)) ≡ true
+      (method_cores folder sources (statuses_from (declared_in containers units) is_recursive n sources)) ≡ true
   all-few [] n = refl
   all-few (s ∷ sources) n =
       and_from (has_few_parameters (method_core folder s (status_by n s))) _ (few n s) (all-few sources (suc n))

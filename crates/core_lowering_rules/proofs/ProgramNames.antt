@@ -1,6 +1,6 @@
 -- The names in a program are identifiers, and differ where they have to.
 use Rattle.std.proofs.Common.{◌≡◌, ℕ, suc, ◌+◌, ◌≤◌, Bool, true, false, cond, not, ◌&&◌, List, [], ◌∷◌, ◌++◌, Option}
-use Rattle.std.proofs.Common.{Some}
+use Rattle.std.proofs.Common.{Some, ◌||◌, append-nil}
 use Rattle.std.proofs.Common.{None, map, filter, refl, sym, ap, ◌∙◌, subst, arith, length, is_none, nat_eq, nat_lt}
 use Rattle.std.specs.Prelude.{option_map, count_by}
 use Rattle.std.specs.List.{list_all, find}
@@ -9,12 +9,15 @@ use borrow.Author.Tests.{eqb-true, ltb-false}
 use Rattle.std.proofs.lemmas.Bool.{false≢true, eq-eqb, and_from, and_parts}
 use Rattle.std.proofs.lemmas.List.Folds.{list_all-map}
 use Rattle.std.proofs.lemmas.List.Sums.{sum_by-cons}
+use Rattle.container_cells.specs.declared.cell.Containers.{Containers}
+use Rattle.container_cells.specs.declared.cell.Containers.TheVariants.{Opaque}
 use Rattle.racer_base.specs.declared.ids.MethodId.{MethodId}
 use Rattle.racer_base.specs.declared.limits.TheConstants.{MAX_PARAMETERS, MAX_LOCALS}
 use Rattle.racer_base.proofs.Tests.{bytes_same}
 use Rattle.core_lowering_rules.proofs.Texts.{bytes_is}
 use Rattle.java_tree.specs.declared.unit.Unit as unit_type
 use Rattle.java_resolver.specs.declared.infos.ClassInfo.{ClassInfo}
+use Rattle.java_resolver.specs.declared.infos.FieldInfo.{FieldInfo}
 use Rattle.java_resolver.specs.declared.infos.MethodInfo.{MethodInfo}
 use Rattle.java_resolver.specs.declared.fault.ResolveFault.{ResolveFault}
 use Rattle.java_resolver.specs.Declarations.{classes_of, fields_of, methods_of}
@@ -27,10 +30,11 @@ use Rattle.core_code.specs.declared.code.Reason.TheVariants.{Recursive}
 use Rattle.core_code.specs.declared.parts.ClassCore.{ClassCore}
 use Rattle.core_code.specs.declared.parts.FieldCore.{FieldCore}
 use Rattle.core_code.specs.Core.{Method}
-use Rattle.core_code.specs.Names.{is_identifier, is_field_name, are_names_right, all_differ, same_text}
+use Rattle.core_code.specs.Names.{is_identifier, is_field_name, is_content_name, are_names_right, all_differ, same_text}
 use Rattle.core_code.specs.Names.{do_classes_differ}
 use Rattle.core_code.specs.Names.{do_fields_differ, same_signature, do_methods_differ}
 use Rattle.core_code.specs.Names as names
+use Rattle.core_code.proofs.FieldNames.{content-of}
 use Rattle.core_lowering_rules.specs.Context.{Folder}
 use Rattle.core_lowering_rules.specs.Methods.{Source, is_past_limit}
 use Rattle.core_lowering_rules.specs.Programs.{sources_of, is_outside, is_overloaded, local_count, where_so, status_of}
@@ -39,27 +43,35 @@ use Rattle.core_lowering_rules.specs.Programs.{method_core}
 use Rattle.core_lowering_rules.specs.Programs.{method_cores, program_of}
 use Rattle.core_lowering_rules.specs.Conditions.{are_named}
 use Rattle.core_lowering_rules.proofs.FoundElements.{Each}
+use Rattle.core_lowering_rules.proofs.ContentFields.{all-pass}
+use Rattle.core_lowering_rules.proofs.DifferentFields.{IsNamed, all_differ-map, fields-apart}
 use Rattle.core_lowering_rules.proofs.KindedPrograms.{known, sources-same}
 
 -- ---- names are right
 
-pub names-right : (files : List (List ℕ)) (units : List unit_type.Unit) (is_recursive : MethodId → Bool) →
-    are_named units ≡ true → are_names_right (program_of files units is_recursive) ≡ true
-names-right files units is_recursive h =
+each-named : (fs : List FieldInfo) → list_all (λ (f : FieldInfo). is_identifier f.name) fs ≡ true → Each IsNamed fs
+each-named [] h = tt
+each-named (f ∷ fs) h =
+    let parts = and_parts (is_identifier f.name) (list_all (λ (g : FieldInfo). is_identifier g.name) fs) h in
+    (parts.0, each-named fs parts.1)
+
+pub fields-named : (units : List unit_type.Unit) → are_named units ≡ true → Each IsNamed (fields_of units)
+fields-named units h =
+    each-named (fields_of units)
+    (and_parts (list_all (λ (c : ClassInfo). is_identifier c.name) (classes_of units)) _ h).1
+
+pub names-right : (containers : Containers) (files : List (List ℕ)) (units : List unit_type.Unit)
+    (is_recursive : MethodId → Bool) →
+    are_named units ≡ true → are_names_right (program_of containers files units is_recursive) ≡ true
+names-right containers files units is_recursive h =
     and_from (list_all (λ (c : ClassCore). is_identifier c.name) (map class_core (classes_of units))) _
     (list_all-map (λ (c : ClassCore). is_identifier c.name) class_core (classes_of units)
     ∙ (and_parts (list_all (λ (c : ClassInfo). is_identifier c.name) (classes_of units)) _ h).0)
-    (list_all-map (λ (f : FieldCore). is_field_name f.name) field_core (fields_of units)
-    ∙ (and_parts (list_all (λ (c : ClassInfo). is_identifier c.name) (classes_of units)) _ h).1)
+    (all-pass (λ (f : FieldCore). is_field_name f.name) IsNamed
+    (λ f named. ap (λ b. b || is_content_name f.name) named)
+    (λ f named. content-of f.name ∙ named) containers (fields_of units) (fields-named units h))
 
 -- ---- lists without repetitions
-
-all_differ-map : {A B : Type 0} (same : B → B → Bool) (f : A → B) (xs : List A) →
-    all_differ same (map f xs) ≡ all_differ (λ x y. same (f x) (f y)) xs
-all_differ-map same f [] = refl
-all_differ-map same f (x ∷ xs) =
-    ap (λ b. b && all_differ same (map f xs)) (list_all-map (λ y. not (same (f x) y)) f xs)
-    ∙ ap (λ b. list_all (λ y. not (same (f x) (f y))) xs && b) (all_differ-map same f xs)
 
 each-front : {A : Type 0} (P : A → Type 0) (xs ys : List A) → Each P (xs ++ ys) → Each P xs
 each-front P [] ys all = tt
@@ -145,15 +157,21 @@ module _ (units : List unit_type.Unit) (accepted : refusal units ≡ None) where
       let rest = unrepeated same_field (fields_of units) []
       (map-none _ (repeated same_field (fields_of units)) parts.0) in rest.1
 
-  pub classes-differ : (files : List (List ℕ)) (is_recursive : MethodId → Bool) →
-      do_classes_differ (program_of files units is_recursive) ≡ true
-  classes-differ files is_recursive =
+  pub classes-differ : (containers : Containers) (files : List (List ℕ)) (is_recursive : MethodId → Bool) →
+      do_classes_differ (program_of containers files units is_recursive) ≡ true
+  classes-differ containers files is_recursive =
       all_differ-map (λ (a b : ClassCore). same_text a.name b.name) class_core (classes_of units) ∙ classes-unrepeated
 
-  pub fields-differ : (files : List (List ℕ)) (is_recursive : MethodId → Bool) →
-      do_fields_differ (program_of files units is_recursive) ≡ true
-  fields-differ files is_recursive =
-      all_differ-map names.same_field field_core (fields_of units) ∙ fields-unrepeated
+  pub opaque-differ : (files : List (List ℕ)) (is_recursive : MethodId → Bool) →
+      do_fields_differ (program_of Opaque files units is_recursive) ≡ true
+  opaque-differ files is_recursive =
+      ap (all_differ names.same_field) (append-nil (map field_core (fields_of units)))
+      ∙ all_differ-map names.same_field field_core (fields_of units) ∙ fields-unrepeated
+
+  pub fields-differ : (containers : Containers) (files : List (List ℕ)) (is_recursive : MethodId → Bool) →
+      are_named units ≡ true → do_fields_differ (program_of containers files units is_recursive) ≡ true
+  fields-differ containers files is_recursive named =
+      fields-apart containers (fields_of units) (fields-named units named) fields-unrepeated
 
 -- ---- methods
 
@@ -293,9 +311,10 @@ module _ (folder : Folder) where
         (all-differ (suc n) sources
         (λ test. let more = count-more test s.info (map known sources) in let all = counted test in omega arith))
 
-pub methods-differ : (files : List (List ℕ)) (units : List unit_type.Unit) (is_recursive : MethodId → Bool) →
-    do_methods_differ (program_of files units is_recursive) ≡ true
-methods-differ files units is_recursive =
-    all-differ (folder_of units is_recursive) (declared_in units) is_recursive 0 (sources_of units)
-    (λ test. let same : count_by test (map known (sources_of units)) ≡ count_by test (methods_of units) =
+pub methods-differ : (containers : Containers) (files : List (List ℕ)) (units : List unit_type.Unit)
+    (is_recursive : MethodId → Bool) →
+    do_methods_differ (program_of containers files units is_recursive) ≡ true
+methods-differ containers files units is_recursive =
+    all-differ (folder_of containers units is_recursive) (declared_in containers units) is_recursive 0
+    (sources_of units) (λ test. let same : count_by test (map known (sources_of units)) ≡ count_by test (methods_of units) =
     ap (count_by test) (sources-same units) in omega arith)

@@ -8,6 +8,7 @@ use Rattle.std.proofs.lemmas.Bool.{eq-eqb}
 use Rattle.std.proofs.lemmas.List.{length-map}
 use Rattle.std.proofs.lemmas.List.Elements.{Contains-append_left, Contains-append_right, Contains-append_cases}
 use Rattle.std.proofs.lemmas.Option.{slice_get_cases, slice_get_within}
+use Rattle.container_cells.specs.declared.cell.Containers.{Containers}
 use Rattle.racer_base.specs.declared.ids.MethodId.{MethodId}
 use Rattle.java_tree.specs.declared.unit.Unit as unit_type
 use Rattle.core_code.specs.Chains.{Calls, IsChain, IsOnCycle, flag_of}
@@ -140,43 +141,48 @@ unflagged folder d f (s ∷ sources) n (suc k) h =
 
 -- ---- programs
 
-pub same-calls : (files : List (List ℕ)) (units : List unit_type.Unit) (f : MethodId → Bool) →
-    all_rows (program_of files units f) ≡ all_rows (draft_of files units)
-same-calls files units f =
-    rows-same (declared_in units) (statuses_from (declared_in units) f 0 (sources_of units))
-    (statuses_from (declared_in units) (λ m. true) 0 (sources_of units)) (declared_in units) f (λ m. true) 0
-    (sources_of units) (sources-placed (λ p. true) units (any-place (flat_map unit_places units)))
+pub same-calls : (containers : Containers) (files : List (List ℕ)) (units : List unit_type.Unit) (f : MethodId → Bool) →
+    all_rows (program_of containers files units f) ≡ all_rows (draft_of containers files units)
+same-calls containers files units f =
+    rows-same (declared_in containers units) (statuses_from (declared_in containers units) f 0 (sources_of units))
+    (statuses_from (declared_in containers units) (λ m. true) 0 (sources_of units)) (declared_in containers units) f
+    (λ m. true) 0 (sources_of units) (sources-placed (λ p. true) units (any-place (flat_map unit_places units)))
 
-right : (files : List (List ℕ)) (units : List unit_type.Unit) (flags : List Bool) →
-    are_calls_right (program_of files units (flag_of flags)) ≡ true
-right files units flags = calls-right files units (flag_of flags)
+right : (containers : Containers) (files : List (List ℕ)) (units : List unit_type.Unit) (flags : List Bool) →
+    are_calls_right (program_of containers files units (flag_of flags)) ≡ true
+right containers files units flags = calls-right containers files units (flag_of flags)
 
-low : (files : List (List ℕ)) (units : List unit_type.Unit) (flags : List Bool) (m n : MethodId) →
-    Contains (calls_of (program_of files units (flag_of flags)) m) n →
-    n.0 < length (program_of files units (flag_of flags)).methods
-low files units flags m n call =
-    let core = program_of files units (flag_of flags) in
+low : (containers : Containers) (files : List (List ℕ)) (units : List unit_type.Unit) (flags : List Bool)
+    (m n : MethodId) →
+    Contains (calls_of (program_of containers files units (flag_of flags)) m) n →
+    n.0 < length (program_of containers files units (flag_of flags)).methods
+low containers files units flags m n call =
+    let core = program_of containers files units (flag_of flags) in
     let found = method_there (method_at core n)
-    (called_analysed core (right files units flags) m n (row_calls core.methods m.0 n call)) in
+    (called_analysed core (right containers files units flags) m n (row_calls core.methods m.0 n call)) in
     slice_get_within core.methods n.0 found.0 found.1
 
-none : (files : List (List ℕ)) (units : List unit_type.Unit) (flags : List Bool) →
-    TellRecursion (draft_of files units) flags → (m : MethodId) →
-    IsOnCycle (code_rows (program_of files units (flag_of flags))) m → ⊥
-none files units flags tell m (between, chain) =
-    let core = program_of files units (flag_of flags) in
-    let analysed : is_analysed core m ≡ true = last_analysed core (right files units flags) m between m chain in
+none : (containers : Containers) (files : List (List ℕ)) (units : List unit_type.Unit) (flags : List Bool) →
+    TellRecursion (draft_of containers files units) flags → (m : MethodId) →
+    IsOnCycle (code_rows (program_of containers files units (flag_of flags))) m → ⊥
+none containers files units flags tell m (between, chain) =
+    let core = program_of containers files units (flag_of flags) in
+    let analysed : is_analysed core m ≡ true =
+    last_analysed core (right containers files units flags) m between m chain in
     let whole : 0 + m.0 ≡ m.0 = omega arith in
     let off : flag_of flags m ≡ false =
     ap (λ (i : ℕ). flag_of flags (record { 0 = i })) (sym whole)
-    ∙ unflagged (folder_of units (flag_of flags)) (declared_in units) (flag_of flags) (sources_of units) 0 m.0
-    analysed in
+    ∙ unflagged (folder_of containers units (flag_of flags)) (declared_in containers units) (flag_of flags)
+    (sources_of units) 0 m.0 analysed in
     let on : flag_of flags m ≡ true =
-    (tell m).1 (subst (λ (rows : List (List MethodId)). IsOnCycle rows m) (same-calls files units (flag_of flags))
+    (tell m).1
+    (subst (λ (rows : List (List MethodId)). IsOnCycle rows m) (same-calls containers files units (flag_of flags))
     (between, chain_named core m between m chain)) in
     cc
 
-pub ranks-there : (files : List (List ℕ)) (units : List unit_type.Unit) (flags : List Bool) →
-    TellRecursion (draft_of files units) flags → has_ranks (program_of files units (flag_of flags)) ≡ true
-ranks-there files units flags tell =
-    ranks_by_chains (program_of files units (flag_of flags)) (low files units flags) (none files units flags tell)
+pub ranks-there : (containers : Containers) (files : List (List ℕ)) (units : List unit_type.Unit) (flags : List Bool) →
+    TellRecursion (draft_of containers files units) flags →
+    has_ranks (program_of containers files units (flag_of flags)) ≡ true
+ranks-there containers files units flags tell =
+    ranks_by_chains (program_of containers files units (flag_of flags)) (low containers files units flags)
+    (none containers files units flags tell)

@@ -1,8 +1,8 @@
 -- Members that are the same declare the same.
 use Rattle.std.proofs.Common.{◌≡◌, ℕ, Bool, true, false, not, ◌&&◌, ◌||◌, cond, List, [], ◌∷◌, ◌++◌, codes, map}
 use Rattle.std.proofs.Common.{replicate}
-use Rattle.std.proofs.Common.{suc, Option, Some, None, refl, ap, ap₂, sym, ◌∙◌}
-use Rattle.std.specs.Prelude.{option_map, if◌then◌else◌}
+use Rattle.std.proofs.Common.{suc, Option, Some, None, refl, ap, sym, ◌∙◌}
+use Rattle.std.specs.Prelude.{option_map, option_and_then, if◌then◌else◌}
 use Rattle.std.specs.List.{list_any}
 use Rattle.racer_base.specs.declared.ids.ClassId.{ClassId}
 use Rattle.racer_base.specs.declared.ids.Kind.{Kind}
@@ -11,8 +11,9 @@ use Rattle.racer_base.specs.declared.ids.Place.{Place}
 use Rattle.racer_base.proofs.Lists.{same_3, same_4}
 use Rattle.java_tree.specs.declared.words.Ident.{Ident}
 use Rattle.java_tree.specs.declared.methods.AnnotationTree.{AnnotationTree}
+use Rattle.java_tree.specs.declared.methods.FieldInitialiser.{FieldInitialiser}
+use Rattle.java_tree.specs.declared.methods.FieldInitialiser.TheVariants as field
 use Rattle.java_tree.specs.declared.methods.FieldTree.{FieldTree}
-use Rattle.java_tree.specs.declared.methods.FieldVariable.{FieldVariable}
 use Rattle.java_tree.specs.declared.methods.MethodTree.{MethodTree}
 use Rattle.java_tree.specs.declared.methods.ModifierTree as modifiers
 use Rattle.java_tree.specs.declared.methods.ModifierTree.TheVariants as modifier
@@ -31,23 +32,26 @@ use Rattle.java_tree.specs.declared.unit.HeadResult.TheVariants as head
 use Rattle.java_tree.specs.declared.unit.Member.{Member}
 use Rattle.java_tree.specs.declared.unit.Member.TheVariants as member
 use Rattle.java_tree.specs.declared.unit.OutsideHead.{OutsideHead}
-use Rattle.java_tree.specs.SameUnits.{SameAnnotation, SameVariable, SameField, SameMethod, SameResult, SameHead}
+use Rattle.java_tree.specs.SameUnits.{SameAnnotation, SameInitialiser, SameVariable, SameField, SameMethod}
+use Rattle.java_tree.specs.SameUnits.{SameResult, SameHead}
 use Rattle.java_tree.specs.SameUnits.{SameMember, SameClass}
 use Rattle.java_resolver.specs.declared.infos.ClassInfo.{ClassInfo}
 use Rattle.java_resolver.specs.declared.infos.FieldInfo.{FieldInfo}
 use Rattle.java_resolver.specs.declared.infos.MethodInfo.{MethodInfo}
 use Rattle.java_resolver.specs.Hidden.{hidden_in, classes_in_all}
 use Rattle.java_resolver.specs.TypeKinds.{kind_of, kind_with}
+use Rattle.java_resolver_parts.specs.ContainerTypes.{type_begun, type_in}
 use Rattle.java_resolver_parts.specs.LockTypes.{is_other, is_lock_type}
 use Rattle.java_resolver_parts.specs.TypeParameters.{parameter_name, parameter_names}
 use Rattle.java_resolver.specs.Words.{has_word, is_annotated}
 use Rattle.java_resolver.specs.Declarations.{has_synchronized, has_annotation, is_checked, class_info, field_info}
+use Rattle.java_resolver.specs.Declarations.{made_family}
 use Rattle.java_resolver.specs.Declarations.{member_fields, class_fields, constructor_name, result_kind, is_constructor}
 use Rattle.java_resolver.specs.Declarations.{kinds_of, takes_any_number, method_info, head_kind}
 use Rattle.java_resolver.specs.Declarations.{is_constructor_head, head_info}
 use Rattle.java_resolver.specs.Declarations.{default_constructor, member_methods}
 use Rattle.java_resolver.specs.Declarations.{member_is_constructor, class_methods}
-use Rattle.core_lowering_rules.proofs.FilledMethods.{Seen, seen, same_seen}
+use Rattle.core_lowering_rules.proofs.FilledMethods.{Seen, same_seen}
 use Rattle.core_lowering_rules.proofs.ZippedLists.{same_5, zip-equal, zip-map, zip-flat, zip-any}
 use Rattle.core_lowering_rules.proofs.ZippedLists.{map-injective}
 
@@ -116,9 +120,20 @@ class-alike a b h = same_3 class_by h.name h.place (checked-alike a b h)
 
 -- ---- fields
 
+begun-alike : (v w : FieldInitialiser) → SameInitialiser v w → type_begun v ≡ type_begun w
+begun-alike field.Absent field.Absent h = refl
+begun-alike field.Absent (field.Formed j) h = absurd h
+begun-alike field.Absent field.Unread h = absurd h
+begun-alike (field.Formed i) field.Absent h = absurd h
+begun-alike (field.Formed i) (field.Formed j) h = ap type_in h.0
+begun-alike (field.Formed i) field.Unread h = absurd h
+begun-alike field.Unread field.Absent h = absurd h
+begun-alike field.Unread (field.Formed j) h = absurd h
+begun-alike field.Unread field.Unread h = refl
+
 module _ (names : List (List ℕ)) (c : ClassId) where
-  abbrev field_by : List modifiers.ModifierTree → Ty → List ℕ → Place → FieldInfo
-  field_by ms t x p =
+  abbrev field_by : List modifiers.ModifierTree → Ty → List ℕ → Place → Option Ty → FieldInfo
+  field_by ms t x p begun =
       record {
         class = c;
         name = x;
@@ -128,6 +143,10 @@ module _ (names : List (List ℕ)) (c : ClassId) where
         is_final = has_word (codes "final") ms;
         is_volatile = has_word (codes "volatile") ms;
         is_lock = has_word (codes "final") ms && is_other (kind_of [] names t) && is_lock_type t;
+        family =
+            if has_word (codes "final") ms && is_other (kind_of [] names t)
+            then option_and_then (made_family names) begun
+            else None;
       }
 
   variables-alike : (f g : FieldTree) → SameField f g
@@ -135,9 +154,12 @@ module _ (names : List (List ℕ)) (c : ClassId) where
   variables-alike f g h =
       let words = same_modifiers f.modifiers g.modifiers h.modifiers in
       zip-map SameVariable (field_info names c f)
-      (λ v w k. ap₂ (field_by f.modifiers (ty_of f.kind)) k.0 k.1) f.variables g.variables h.variables
-      ∙ ap (λ ms. map (λ (v : FieldVariable). field_by ms (ty_of f.kind) v.name.text v.name.place) g.variables) words
-      ∙ ap (λ t. map (λ (v : FieldVariable). field_by g.modifiers t v.name.text v.name.place) g.variables) h.kind.0
+      (λ v w k. same_3 (field_by f.modifiers (ty_of f.kind)) k.0 k.1 (begun-alike v.initialiser w.initialiser k.2))
+      f.variables g.variables h.variables
+      ∙ ap (λ ms. map (λ v. field_by ms (ty_of f.kind) v.name.text v.name.place (type_begun v.initialiser)) g.variables)
+      words
+      ∙ ap (λ t. map (λ v. field_by g.modifiers t v.name.text v.name.place (type_begun v.initialiser)) g.variables)
+      h.kind.0
 
   fields-alike : (x y : Member) → SameMember x y → member_fields names c x ≡ member_fields names c y
   fields-alike =

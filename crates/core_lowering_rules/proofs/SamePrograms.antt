@@ -4,6 +4,7 @@ use Rattle.std.proofs.Common.{IsTrue, ◌↔◌, refl, ap, ap₂, sym, ◌∙◌
 use Rattle.std.specs.List.{AllZip, flat_map}
 use Rattle.std.specs.Prelude.{nat_lt}
 use Rattle.std.specs.Option.{option_or}
+use Rattle.container_cells.specs.declared.cell.Containers.{Containers}
 use Rattle.racer_base.specs.declared.ids.ClassId.{ClassId}
 use Rattle.racer_base.specs.declared.ids.Kind.{Kind}
 use Rattle.racer_base.specs.declared.ids.MethodId.{MethodId}
@@ -29,11 +30,12 @@ use Rattle.core_code.specs.Recursion.{all_rows}
 use Rattle.core_code.specs.Tree.{in_sequence}
 use Rattle.core_lowering_drafts.specs.Only.{Code}
 use Rattle.core_lowering_rules.specs.Context.{Folder}
+use Rattle.core_lowering_rules.specs.Cells.{cells_of}
 use Rattle.core_lowering_rules.specs.Methods.{Source, this_kinds}
 use Rattle.core_lowering_drafts.specs.Sites.{numbered}
 use Rattle.core_lowering_rules.specs.Programs.{class_sources, sources_of, status_of, declared_in, statuses_from}
 use Rattle.core_lowering_rules.specs.Programs.{folder_of}
-use Rattle.core_lowering_rules.specs.Programs.{class_core, field_core, method_core, method_cores, skipped_member}
+use Rattle.core_lowering_rules.specs.Programs.{class_core, field_cores, method_core, method_cores, skipped_member}
 use Rattle.core_lowering_rules.specs.Programs.{skipped_in}
 use Rattle.core_lowering_rules.specs.Programs.{in_order, program_of, draft_of, IsLowered, is_overloaded, where_so}
 use Rattle.core_lowering_rules.specs.Programs.{is_entry}
@@ -140,17 +142,23 @@ skipped-alike u v h =
     ap₂ (λ l r. l ++ r) h.skipped
     (zip-flat SameClass skipped_class skipped_class skipped_class-alike u.classes v.classes h.classes)
 
-abbrev declared_by : List ClassInfo → List FieldInfo → List MethodInfo → Folder
-declared_by classes fields methods =
-    record { classes = classes; fields = fields; methods = methods; statuses = [] }
+abbrev declared_by : Containers → List ClassInfo → List FieldInfo → List MethodInfo → Folder
+declared_by containers classes fields methods =
+    record {
+      classes = classes;
+      fields = fields;
+      cells = cells_of containers fields;
+      methods = methods;
+      statuses = [];
+    }
 
-abbrev program_with : List (List ℕ) → Folder → List Method → List Place → Core
-program_with files folder methods skipped =
+abbrev program_with : Containers → List (List ℕ) → Folder → List Method → List Place → Core
+program_with containers files folder methods skipped =
     record {
       files = files;
       skipped = in_order skipped;
       classes = map class_core folder.classes;
-      fields = map field_core folder.fields;
+      fields = field_cores containers folder.fields;
       methods = methods;
     }
 
@@ -187,26 +195,29 @@ module _ (us vs : List unit.Unit) (same : AllZip SameUnit us vs) where
       (by_class-same (class_sources (names_of us)) (λ c a b h. class_sources-same (names_of us) c a b h) 0
       (trees_of us) (trees_of vs) trees-same)
 
-  declared-alike : declared_in us ≡ declared_in vs
-  declared-alike = same_3 declared_by classes-alike fields-alike methods-alike
+  module _ (containers : Containers) where
+    declared-alike : declared_in containers us ≡ declared_in containers vs
+    declared-alike = same_3 (declared_by containers) classes-alike fields-alike methods-alike
 
-  folder-alike : (r : MethodId → Bool) → folder_of us r ≡ folder_of vs r
-  folder-alike r =
-      ap (λ (folder : Folder). record folder { statuses = statuses_from folder r 0 (sources_of us) }) declared-alike
-      ∙ ap (λ statuses. record (declared_in vs) { statuses = statuses })
-      (statuses-alike (declared_in vs) r 0 (sources_of us) (sources_of vs) sources-same)
+    folder-alike : (r : MethodId → Bool) → folder_of containers us r ≡ folder_of containers vs r
+    folder-alike r =
+        ap (λ (folder : Folder). record folder { statuses = statuses_from folder r 0 (sources_of us) }) declared-alike
+        ∙ ap (λ statuses. record (declared_in containers vs) { statuses = statuses })
+        (statuses-alike (declared_in containers vs) r 0 (sources_of us) (sources_of vs) sources-same)
 
-  pub program-alike : (files : List (List ℕ)) (r : MethodId → Bool) → program_of files us r ≡ program_of files vs r
-  program-alike files r =
-      ap
-      (λ folder. program_with files folder (method_cores folder (sources_of us) folder.statuses)
-      (flat_map skipped_in us)) (folder-alike r)
-      ∙ ap₂ (program_with files (folder_of vs r))
-      (cores-alike (folder_of vs r) (sources_of us) (sources_of vs) (folder_of vs r).statuses sources-same)
-      (zip-flat SameUnit skipped_in skipped_in skipped-alike us vs same)
+    pub program-alike : (files : List (List ℕ)) (r : MethodId → Bool) →
+        program_of containers files us r ≡ program_of containers files vs r
+    program-alike files r =
+        ap
+        (λ folder. program_with containers files folder (method_cores folder (sources_of us) folder.statuses)
+        (flat_map skipped_in us)) (folder-alike r)
+        ∙ ap₂ (program_with containers files (folder_of containers vs r))
+        (cores-alike (folder_of containers vs r) (sources_of us) (sources_of vs) (folder_of containers vs r).statuses
+        sources-same)
+        (zip-flat SameUnit skipped_in skipped_in skipped-alike us vs same)
 
-  pub draft-alike : (files : List (List ℕ)) → draft_of files us ≡ draft_of files vs
-  draft-alike files = program-alike files (λ m. true)
+    pub draft-alike : (files : List (List ℕ)) → draft_of containers files us ≡ draft_of containers files vs
+    draft-alike files = program-alike files (λ m. true)
 
 -- ---- the lowered program
 
@@ -220,12 +231,13 @@ flags-alike : (rows : List (List MethodId)) (f g : List Bool) → TellCycles row
     → flag_of f ≡ flag_of g
 flags-alike rows f g h k = λ i. λ m. (told-alike (IsOnCycle rows m) (flag_of f m) (flag_of g m) (h m) (k m)) i
 
-pub lowered-alike : (us vs : List unit.Unit) → AllZip SameUnit us vs → (files : List (List ℕ)) (p q : Core)
-    → IsLowered files us p → IsLowered files vs q → p ≡ q
-lowered-alike us vs same files p q h k =
-    let rows : all_rows (draft_of files us) ≡ all_rows (draft_of files vs) =
-    ap all_rows (draft-alike us vs same files) in
+pub lowered-alike : (us vs : List unit.Unit) → AllZip SameUnit us vs → (containers : Containers) →
+    (files : List (List ℕ)) (p q : Core) → IsLowered containers files us p → IsLowered containers files vs q → p ≡ q
+lowered-alike us vs same containers files p q h k =
+    let rows : all_rows (draft_of containers files us) ≡ all_rows (draft_of containers files vs) =
+    ap all_rows (draft-alike us vs same containers files) in
     let flags : flag_of h.flags ≡ flag_of k.flags =
-    flags-alike (all_rows (draft_of files vs)) h.flags k.flags
+    flags-alike (all_rows (draft_of containers files vs)) h.flags k.flags
     (subst (λ r. TellCycles r h.flags) rows h.recursive) k.recursive in
-    h.program ∙ program-alike us vs same files (flag_of h.flags) ∙ ap (program_of files vs) flags ∙ sym k.program
+    h.program ∙ program-alike us vs same containers files (flag_of h.flags)
+    ∙ ap (program_of containers files vs) flags ∙ sym k.program

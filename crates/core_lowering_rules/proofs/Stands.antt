@@ -5,6 +5,7 @@ use Rattle.racer_base.specs.declared.ids.FieldId.{FieldId}
 use Rattle.racer_base.specs.declared.ids.MethodId.{MethodId}
 use Rattle.racer_base.specs.declared.ids.Kind.{Kind}
 use Rattle.racer_base.specs.declared.ids.Kind.TheVariants.{Plain, Declared}
+use Rattle.container_cells.specs.declared.cell.Cell.{Cell}
 use Rattle.java_resolver.specs.declared.infos.FieldInfo.{FieldInfo}
 use Rattle.java_resolver.specs.declared.infos.MethodInfo.{MethodInfo}
 use Rattle.java_resolver.specs.declared.scope.ScopeVariable.{ScopeVariable}
@@ -13,6 +14,7 @@ use Rattle.core_code.specs.Calls.{method_at, taken_by}
 use Rattle.core_code.specs.Calls as core_calls
 use Rattle.core_code.specs.KindCheck.{field_at, variable_at}
 use Rattle.core_lowering_rules.specs.Context.{Context, Folder, Guard, Result, Itself, Nothing, Value}
+use Rattle.core_lowering_rules.specs.Cells.{content_core}
 use Rattle.core_lowering_rules.specs.Programs.{field_core}
 use Rattle.core_lowering_rules.proofs.FoundElements.{Each}
 
@@ -46,6 +48,9 @@ IsGuard m guard = elim guard.variable [ None ↦ Unit {0} | Some v ↦ variable_
 pub record FolderStands (core : Core) (folder : Folder) : Type 0 where
   pub fields : (f : FieldId) (info : FieldInfo) → slice_get folder.fields f.0 ≡ Some info →
       field_at core f ≡ Some (field_core info)
+  -- what a container holds stands beside it, on the same base
+  pub cells : (f : FieldId) (info : FieldInfo) (cell : Cell) → slice_get folder.fields f.0 ≡ Some info →
+      slice_get folder.cells f.0 ≡ Some (Some cell) → field_at core cell.content ≡ Some (content_core info)
   pub methods : (n : MethodId) (info : MethodInfo) → slice_get folder.methods n.0 ≡ Some info →
       elim (slice_get folder.statuses n.0) as (λ _. Bool) [ None ↦ false | Some status ↦ is_none status ] ≡ true →
       HasMethod core n info

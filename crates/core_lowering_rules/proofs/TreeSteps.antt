@@ -5,7 +5,7 @@ use Rattle.java_tree.specs.declared.expressions.Initialiser.{Initialiser, roll-I
 use Rattle.java_tree.specs.declared.expressions.LambdaBody.{LambdaBody, roll-LambdaBody, map-LambdaBody}
 use Rattle.java_tree.specs.declared.expressions.Made.{Made, roll-Made, map-Made}
 use Rattle.java_tree.specs.declared.expressions.Referred.{Referred, roll-Referred, map-Referred}
-use Rattle.java_tree.specs.declared.expressions.ArrayTree.{ArrayTree, roll-ArrayTree, map-ArrayTree}
+use Rattle.java_tree.specs.declared.expressions.ArrayTree.{ArrayTree, roll-ArrayTree}
 use Rattle.java_tree.specs.declared.expressions.CallTree.{CallTree, roll-CallTree, map-CallTree}
 use Rattle.java_tree.specs.declared.expressions.CastTree.{CastTree, roll-CastTree, map-CastTree}
 use Rattle.java_tree.specs.declared.expressions.InstanceTree.{InstanceTree, roll-InstanceTree, map-InstanceTree}

@@ -2,6 +2,7 @@
 use Rattle.std.specs.Prelude.{ℕ, Bool, false, List, [], ◌∷◌, ◌++◌, Option, Some, None, if◌then◌else◌, is_none}
 use Rattle.std.specs.Prelude.{slice_get}
 use Rattle.std.specs.List.{list_all}
+use Rattle.container_cells.specs.declared.cell.Cell.{Cell}
 use Rattle.racer_base.specs.declared.ids.VarId.{VarId}
 use Rattle.racer_base.specs.declared.ids.MethodId.{MethodId}
 use Rattle.racer_base.specs.declared.ids.Kind.{Kind}
@@ -30,10 +31,11 @@ use Rattle.core_lowering_rules.specs.ValueKinds.{ValueKind, is_converted}
 
 -- ---- what code stands in
 
--- what the folder declares, and why methods are not analysed
+-- what the folder declares, the cell of each field that is a container, and why methods are not analysed
 pub record Folder : Type 0 where
   pub classes : List ClassInfo
   pub fields : List FieldInfo
+  pub cells : List (Option Cell)
   pub methods : List MethodInfo
   pub statuses : List (Option Reason)
 

@@ -23,6 +23,7 @@ use Rattle.core_lowering_rules.specs.Context.{meaning_of}
 use Rattle.core_lowering_rules.specs.Assignments.{Storage, Elsewhere, kind_in, of_name, selected, element, read}
 use Rattle.core_lowering_rules.specs.Assignments.{assigned}
 use Rattle.core_lowering_rules.specs.Assignments.{combined, counted}
+use Rattle.core_lowering_rules.specs.Touches.{touched_in, touching_call}
 use Rattle.core_lowering_rules.specs.Calls.{own_callee, callee_on, result_kind, called, called_on, made}
 
 -- ---- names of classes
@@ -154,15 +155,24 @@ abbrev mutual
       called context x.place (count_exprs es) (λ kinds. passed context kinds es)
       (own_callee context x (count_exprs es))
   code context (CallOn e x es) =
-      called_on context x.place (class_before context e) (code context e) (count_exprs es)
-      (λ kinds. passed context kinds es) (callee_on context (class_before context e) (kind context e) x
-      (count_exprs es))
+      elim (touched_in context (stored context e) x (count_exprs es)) [
+        | Some touched ↦ touching_call context x.place touched (count_exprs es) (passed context [] es)
+        | None ↦
+            called_on context x.place (class_before context e) (code context e) (count_exprs es)
+            (λ kinds. passed context kinds es) (callee_on context (class_before context e) (kind context e) x
+            (count_exprs es))
+      ]
   code context (New place t es) =
       made context place (type_kind context t) (count_exprs es) (λ kinds. passed context kinds es)
   code context (NewBody place t es) = passed context [] es ++ op_at place (Outside (count_exprs es))
   code context (NewArray place lengths) = passed context [] lengths ++ op_at place (Outside (count_exprs lengths))
   code context (NewItems place items) = items_code context items ++ op_at place (Outside (count_inits items))
   code context (Paren e) = code context e
+
+  -- what an expression is stored in that is written as a name, a field access or an array access
+  pub stored : Context → Expr → Storage
+  stored context (Read a) = storage context a
+  stored context e = Elsewhere 0 []
 
   pub storage : Context → Access → Storage
   storage context (Named x) = of_name context x

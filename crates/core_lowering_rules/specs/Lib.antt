@@ -4,7 +4,10 @@ pub mod Sought
 pub mod TreesOf
 pub mod ValueKinds
 pub mod Context
+pub mod Cells
+pub mod Contents
 pub mod Assignments
+pub mod Touches
 pub mod Calls
 pub mod Expressions
 pub mod Locks

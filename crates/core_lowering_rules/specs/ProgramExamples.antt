@@ -12,6 +12,7 @@ use Rattle.java_resolver.specs.NameExamples.{absent, outside}
 use Rattle.core_code.specs.declared.code.Reason.{Reason}
 use Rattle.core_code.specs.Core as core
 use Rattle.core_code.specs.Tree.{Tree}
+use Rattle.container_cells.specs.declared.cell.Containers.TheVariants.{Opaque}
 use Rattle.core_lowering_rules.specs.Programs.{program_of}
 
 -- a class A that is checked, with these members
@@ -28,7 +29,7 @@ void_method name = empty_method [] Void name 0
 
 -- the methods of the program of one file, where none is recursive
 abbrev pub methods_of : List Unit → List core.Method
-methods_of units = (program_of (codes "A.java" ∷ []) units (λ m. false)).methods
+methods_of units = (program_of Opaque (codes "A.java" ∷ []) units (λ m. false)).methods
 
 abbrev pub statuses_of : List Unit → List (Option Reason)
 statuses_of units = map (λ (m : core.Method). m.status) (methods_of units)

@@ -4,6 +4,7 @@ use Rattle.std.specs.Prelude.{Some, None, length, map}
 use Rattle.std.specs.Prelude.{if◌then◌else◌, ◌-◌, nat_eq, nat_lt, is_none, slice_get, sum_by, count_by}
 use Rattle.std.specs.List.{flat_map, list_any}
 use Rattle.std.specs.Option.{option_or}
+use Rattle.container_cells.specs.declared.cell.Containers.{Containers}
 use Rattle.racer_base.specs.declared.ids.ClassId.{ClassId}
 use Rattle.racer_base.specs.declared.ids.MethodId.{MethodId}
 use Rattle.racer_base.specs.declared.ids.Place.{Place}
@@ -29,6 +30,7 @@ use Rattle.core_code.specs.Recursion.{TellRecursion, all_calls_in}
 use Rattle.core_code.specs.CalleeRows.{different}
 use Rattle.core_code.specs.Chains.{flag_of}
 use Rattle.core_lowering_rules.specs.Context.{Folder}
+use Rattle.core_lowering_rules.specs.Cells.{cells_of, contents}
 use Rattle.core_lowering_rules.specs.Methods.{Body, Default, Unspelled, Source, this_kinds, method_code, method_kinds}
 use Rattle.core_lowering_rules.specs.Methods.{has_other_lock, is_apart, is_past_limit, Spelled}
 use Rattle.core_lowering_drafts.specs.Sites.{numbered}
@@ -85,9 +87,15 @@ status_of folder is_recursive s =
     (option_or (where_so (is_past_limit folder s) Operations) (where_so is_recursive Recursive)))))
 
 -- what is declared, before anything is known of methods
-abbrev pub declared_in : List Unit → Folder
-declared_in units =
-    record { classes = classes_of units; fields = fields_of units; methods = methods_of units; statuses = [] }
+abbrev pub declared_in : Containers → List Unit → Folder
+declared_in containers units =
+    record {
+      classes = classes_of units;
+      fields = fields_of units;
+      cells = cells_of containers (fields_of units);
+      methods = methods_of units;
+      statuses = [];
+    }
 
 -- those of methods that are numbered from n on
 abbrev pub statuses_from : Folder → (MethodId → Bool) → ℕ → List Source → List (Option Reason)
@@ -96,9 +104,11 @@ statuses_from folder is_recursive n (s ∷ sources) =
     status_of folder (is_recursive (record { 0 = n })) s ∷ statuses_from folder is_recursive (suc n) sources
 
 -- the same, where these methods are recursive
-abbrev pub folder_of : List Unit → (MethodId → Bool) → Folder
-folder_of units is_recursive =
-    record (declared_in units) { statuses = statuses_from (declared_in units) is_recursive 0 (sources_of units) }
+abbrev pub folder_of : Containers → List Unit → (MethodId → Bool) → Folder
+folder_of containers units is_recursive =
+    record (declared_in containers units) {
+      statuses = statuses_from (declared_in containers units) is_recursive 0 (sources_of units);
+    }
 
 -- ---- the program
 
@@ -168,28 +178,33 @@ abbrev pub in_order : List Place → List Place
 in_order [] = []
 in_order (p ∷ ps) = put_in p (in_order ps)
 
--- the program of units, where these methods are recursive
-abbrev pub program_of : List (List ℕ) → List Unit → (MethodId → Bool) → Core
-program_of files units is_recursive =
-    let folder = folder_of units is_recursive in
+-- the fields, and behind them all what the containers among them hold
+abbrev pub field_cores : Containers → List FieldInfo → List FieldCore
+field_cores containers fields = map field_core fields ++ contents containers fields
+
+-- the program of units, where containers are this, and these methods are recursive
+abbrev pub program_of : Containers → List (List ℕ) → List Unit → (MethodId → Bool) → Core
+program_of containers files units is_recursive =
+    let folder = folder_of containers units is_recursive in
     record {
       files = files;
       skipped = in_order (flat_map skipped_in units);
       classes = map class_core folder.classes;
-      fields = map field_core folder.fields;
+      fields = field_cores containers folder.fields;
       methods = method_cores folder (sources_of units) folder.statuses;
     }
 
 -- the program in which every method is taken for recursive, so that none is analysed
-abbrev pub draft_of : List (List ℕ) → List Unit → Core
-draft_of files units = program_of files units (λ m. true)
+abbrev pub draft_of : Containers → List (List ℕ) → List Unit → Core
+draft_of containers files units = program_of containers files units (λ m. true)
 
 -- how many different pairs of a method and one that it calls there are
 abbrev pub call_edges : Core → ℕ
 call_edges core = sum_by (λ (m : Method). length (different (all_calls_in m.code))) core.methods
 
 -- the program of units: its recursive methods are those of the draft, in which the same methods are called
-pub record IsLowered (files : List (List ℕ)) (units : List Unit) (core : Core) : Type 0 where
+pub record IsLowered (containers : Containers) (files : List (List ℕ)) (units : List Unit) (core : Core)
+    : Type 0 where
   pub flags : List Bool
-  pub recursive : TellRecursion (draft_of files units) flags
-  pub program : core ≡ program_of files units (flag_of flags)
+  pub recursive : TellRecursion (draft_of containers files units) flags
+  pub program : core ≡ program_of containers files units (flag_of flags)

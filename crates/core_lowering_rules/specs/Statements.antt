@@ -21,7 +21,8 @@ use Rattle.core_lowering_rules.specs.Context.{Context, Guard, Itself, Nothing, V
 use Rattle.core_lowering_rules.specs.Context.{choice, repeated, again, held, within, ending, guarded, converted}
 use Rattle.core_lowering_rules.specs.Context.{push_this}
 use Rattle.core_lowering_rules.specs.Context.{type_kind, variable_kind_in}
-use Rattle.core_lowering_rules.specs.Expressions.{kind, code, init_kind, init_code}
+use Rattle.core_lowering_rules.specs.Touches.{container_in, looked_over}
+use Rattle.core_lowering_rules.specs.Expressions.{kind, code, stored, init_kind, init_code}
 use Rattle.core_lowering_rules.specs.Scopes.{next_variable, of_type, started, after, after_all, after_groups, back_in}
 use Rattle.core_lowering_rules.specs.Scopes.{new_variables, in_loop, in_switch, in_labelled, with_label, is_loop}
 use Rattle.core_lowering_rules.specs.Scopes.{break_to}
@@ -32,6 +33,13 @@ use Rattle.core_lowering_rules.specs.Scopes.{with_resources, unlocked_in, caught
 
 abbrev pub run : Context → Expr → Code
 run context e = code context e ++ op context Drop
+
+-- what a `for` goes over, of which only that it is looked at is used
+abbrev pub gone_over : Context → Expr → Code
+gone_over context e = elim (container_in context (stored context e)) [
+  | Some container ↦ looked_over context container ++ op context Drop
+  | None ↦ run context e
+]
 
 abbrev pub run_all : Context → Exprs → Code
 run_all context no_expr = []
@@ -190,7 +198,7 @@ abbrev mutual
   stmt context (ForEach t x e s) =
       let inside = of_type context t 0 x in
       let body = stmt (in_loop inside) s in
-      closed context (after (in_loop inside) s) (run context e
+      closed context (after (in_loop inside) s) (gone_over context e
       ++ broken inside false body
       (repeated (op context (Outside 0) ++ set context (next_variable context) ++ one_round inside body)))
   stmt context (Sync place e ss) =

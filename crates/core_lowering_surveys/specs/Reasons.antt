@@ -1,6 +1,7 @@
 -- A contract of a public call rests on this: why methods are not analysed, apart from recursion.
 use Rattle.std.specs.Prelude.{ℕ, suc, Bool, List, [], ◌∷◌, Option, length, nat_lt}
 use Rattle.std.specs.Option.{option_or}
+use Rattle.container_cells.specs.declared.cell.Cell.{Cell}
 use Rattle.racer_base.specs.declared.ids.MethodId.{MethodId}
 use Rattle.racer_base.specs.declared.limits.TheConstants.{MAX_PARAMETERS, MAX_LOCALS}
 use Rattle.java_resolver.specs.declared.table.Table.{Table}
@@ -26,8 +27,8 @@ own_reason folder s =
     (local_count folder s) (is_past_limit folder s)
 
 -- what a table declares, before anything is known of methods
-abbrev pub declared_by : Table → Folder
-declared_by table = folder_of table []
+abbrev pub declared_by : Table → List (Option Cell) → Folder
+declared_by table cells = folder_of table cells []
 
 -- with recursion last
 abbrev pub with_recursion : Option Reason → Bool → Option Reason

@@ -1,5 +1,6 @@
 -- A contract of a public call rests on this: what is known of methods before it is known which are recursive.
-use Rattle.std.specs.Prelude.{◌≡◌, List, []}
+use Rattle.std.specs.Prelude.{◌≡◌, List, [], Option}
+use Rattle.container_cells.specs.declared.cell.Cell.{Cell}
 use Rattle.racer_base.specs.declared.ids.MethodId.{MethodId}
 use Rattle.java_resolver.specs.declared.table.Table.{Table}
 use Rattle.core_code.specs.Tree.{Tree, in_sequence}
@@ -16,8 +17,8 @@ abbrev pub seen : Surveyed → Source
 seen m = source_of m.source
 
 -- the extent is that of the code
-abbrev pub IsRight : Table → Surveyed → Type 0
-IsRight table m = is_past m.extent ≡ is_past_limit (folder_of table []) (seen m)
+abbrev pub IsRight : Table → List (Option Cell) → Surveyed → Type 0
+IsRight table cells m = is_past m.extent ≡ is_past_limit (folder_of table cells []) (seen m)
 
 -- the code of a method
 abbrev pub code_in : Folder → Source → Tree

@@ -8,6 +8,7 @@ ghost use Rattle.core_lowering_surveys.specs.Entries.{is_checked_in, is_entry_in
 ghost use Rattle.core_lowering_surveys.specs.Surveys.{seen, IsRight};
 
 use crate::surveys::Surveyed;
+use container_cells::Cell;
 use core_code::{MethodCore, Reason};
 use core_lowering_methods::lower_method;
 use java_resolver::{ClassInfo, MethodInfo, Table};
@@ -45,18 +46,26 @@ fn kinds_of(alloc: Global, kinds: &[Kind]) -> Result<Items<Kind>, Memory>
 fn method(
     alloc: Global,
     table: &Table,
+    cells: &[Option<Cell>],
     statuses: &[Option<Reason>],
     surveyed: &Surveyed,
     status: Option<Reason>,
 ) -> Result<MethodCore, Memory>
-    requires { IsRight table.now surveyed.now }
+    requires { IsRight table.now cells.now surveyed.now }
     ensures { IfOk result (λ method. method_of method ≡
-        wanted.method_core (folder_of table.now statuses.now) (seen surveyed.now) status) }
+        wanted.method_core (folder_of table.now cells.now statuses.now) (seen surveyed.now) status) }
 {
     let info = surveyed.source.info;
     let name = Text::from_str(alloc, info.name.as_str())?;
     let parameters = kinds_of(alloc, info.parameters.as_slice())?;
-    let lowered = lower_method(alloc, table, statuses, &surveyed.source, surveyed.extent)?;
+    let lowered = lower_method(
+        alloc,
+        table,
+        cells,
+        statuses,
+        &surveyed.source,
+        surveyed.extent,
+    )?;
     Ok(MethodCore {
         class: info.class,
         name,
@@ -76,16 +85,17 @@ fn method(
 pub fn methods(
     alloc: Global,
     table: &Table,
+    cells: &[Option<Cell>],
     statuses: &[Option<Reason>],
     surveyed: &[Surveyed],
 ) -> Result<Items<MethodCore>, Memory>
-    requires { All (IsRight table.now) surveyed.now }
+    requires { All (IsRight table.now cells.now) surveyed.now }
     ensures { IfOk result (λ methods. map method_of methods ≡
-        wanted.method_cores (folder_of table.now statuses.now) (map seen surveyed.now) statuses.now) }
+        wanted.method_cores (folder_of table.now cells.now statuses.now) (map seen surveyed.now) statuses.now) }
 {
     let mut methods = Items::new(alloc);
     for (one, status) in surveyed.iter().zip(statuses) {
-        methods.push(method(alloc, table, statuses, one, *status)?)?;
+        methods.push(method(alloc, table, cells, statuses, one, *status)?)?;
     }
     Ok(methods)
 }

@@ -14,6 +14,7 @@ ghost use Rattle.core_lowering_surveys.specs.Surveys.{row_in, seen, IsRight};
 
 use crate::counts::count_methods;
 use crate::reasons::first_reason;
+use container_cells::Cell;
 use core_code::{Reason, all_callees};
 use core_lowering_context::Source;
 use core_lowering_methods::{Extent, survey_method};
@@ -36,15 +37,21 @@ struct Found {
     extent: Extent,
 }
 
-fn survey(alloc: Global, table: &Table, counts: &[u32], source: &Source) -> Result<Found, Memory>
+fn survey(
+    alloc: Global,
+    table: &Table,
+    cells: &[Option<Cell>],
+    counts: &[u32],
+    source: &Source,
+) -> Result<Found, Memory>
     requires { AreCounts (methods table.now) counts.now }
-    ensures row { IfOk result (λ found. found.row ≡ row_in (folder_of table.now []) (source_of source.now)) }
+    ensures row { IfOk result (λ found. found.row ≡ row_in (folder_of table.now cells.now []) (source_of source.now)) }
     ensures reason { IfOk result (λ found.
-        found.reason ≡ own_reason (declared_by table.now) (source_of source.now)) }
+        found.reason ≡ own_reason (declared_by table.now cells.now) (source_of source.now)) }
     ensures extent { IfOk result (λ found.
-        is_past found.extent ≡ is_past_limit (folder_of table.now []) (source_of source.now)) }
+        is_past found.extent ≡ is_past_limit (folder_of table.now cells.now []) (source_of source.now)) }
 {
-    let survey = survey_method(alloc, table, source)?;
+    let survey = survey_method(alloc, table, cells, source)?;
     let reason = first_reason(table, counts, source, &survey)?;
     let extent = survey.extent;
     let row = Items::from(all_callees(alloc, &survey.lowered.code)?);
@@ -67,22 +74,23 @@ pub struct Surveys<'a> {
 fn survey_all<'a>(
     alloc: Global,
     table: &Table,
+    cells: &[Option<Cell>],
     counts: &[u32],
     sources: &[Source<'a>],
 ) -> Result<Surveys<'a>, Memory>
     requires { AreCounts (methods table.now) counts.now }
     ensures rows { IfOk result (λ surveys.
-        surveys.rows.items ≡ map (row_in (folder_of table.now [])) (map source_of sources.now)) }
+        surveys.rows.items ≡ map (row_in (folder_of table.now cells.now [])) (map source_of sources.now)) }
     ensures reasons { IfOk result (λ surveys.
-        surveys.reasons.items ≡ map (own_reason (declared_by table.now)) (map source_of sources.now)) }
+        surveys.reasons.items ≡ map (own_reason (declared_by table.now cells.now)) (map source_of sources.now)) }
     ensures methods { IfOk result (λ surveys. map seen surveys.methods.items ≡ map source_of sources.now) }
-    ensures extents { IfOk result (λ surveys. All (IsRight table.now) surveys.methods.items) }
+    ensures extents { IfOk result (λ surveys. All (IsRight table.now cells.now) surveys.methods.items) }
 {
     let mut rows = Vec::new(alloc);
     let mut reasons = Vec::new(alloc);
     let mut methods = Vec::new(alloc);
     for source in sources {
-        let found = survey(alloc, table, counts, source)?;
+        let found = survey(alloc, table, cells, counts, source)?;
         methods.push(Surveyed {
             source: *source,
             extent: found.extent,
@@ -101,15 +109,16 @@ fn survey_all<'a>(
 pub fn find_surveys<'a>(
     alloc: Global,
     table: &Table,
+    cells: &[Option<Cell>],
     sources: &[Source<'a>],
 ) -> Result<Surveys<'a>, Memory>
     ensures rows { IfOk result (λ surveys.
-        surveys.rows.items ≡ map (row_in (folder_of table.now [])) (map source_of sources.now)) }
+        surveys.rows.items ≡ map (row_in (folder_of table.now cells.now [])) (map source_of sources.now)) }
     ensures reasons { IfOk result (λ surveys.
-        surveys.reasons.items ≡ map (own_reason (declared_by table.now)) (map source_of sources.now)) }
+        surveys.reasons.items ≡ map (own_reason (declared_by table.now cells.now)) (map source_of sources.now)) }
     ensures methods { IfOk result (λ surveys. map seen surveys.methods.items ≡ map source_of sources.now) }
-    ensures extents { IfOk result (λ surveys. All (IsRight table.now) surveys.methods.items) }
+    ensures extents { IfOk result (λ surveys. All (IsRight table.now cells.now) surveys.methods.items) }
 {
     let counts = count_methods(alloc, table, table.methods())?;
-    survey_all(alloc, table, counts.as_slice(), sources)
+    survey_all(alloc, table, cells, counts.as_slice(), sources)
 }

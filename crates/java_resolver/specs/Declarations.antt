@@ -1,8 +1,9 @@
 -- A contract of a public call rests on this: what the units of a folder declare, as lists in source order: classes,
 -- fields by class and declarator, methods and constructors (JLS 8.1, 8.3, 8.4, 8.8).
 use Rattle.std.specs.Prelude.{ℕ, suc, Bool, true, false, not, ◌&&◌, ◌||◌, List, [], ◌∷◌, ◌++◌, codes, map}
-use Rattle.std.specs.Prelude.{replicate, if◌then◌else◌}
+use Rattle.std.specs.Prelude.{Option, None, option_and_then, replicate, if◌then◌else◌}
 use Rattle.std.specs.List.{flat_map, list_any}
+use Rattle.container_cells.specs.declared.table.Family.{Family}
 use Rattle.racer_base.specs.declared.ids.ClassId.{ClassId}
 use Rattle.racer_base.specs.declared.ids.Kind.{Kind}
 use Rattle.racer_base.specs.declared.ids.Kind.TheVariants as kind
@@ -12,6 +13,7 @@ use Rattle.java_tree.specs.declared.methods.MethodTree.{MethodTree}
 use Rattle.java_tree.specs.declared.methods.ParameterTree.{ParameterTree}
 use Rattle.java_tree.specs.declared.methods.ResultTree.{ResultTree}
 use Rattle.java_tree.specs.declared.methods.ResultTree.TheVariants as result
+use Rattle.java_tree.specs.Trees.{Ty}
 use Rattle.java_tree.specs.View.{ty_of}
 use Rattle.java_tree.specs.declared.unit.Unit.{Unit}
 use Rattle.java_tree.specs.declared.unit.ClassTree.{ClassTree}
@@ -27,6 +29,7 @@ use Rattle.java_resolver.specs.Words.{is_annotation_named, has_word, is_annotate
 use Rattle.java_resolver.specs.Hidden.{hidden_in}
 use Rattle.java_resolver.specs.TypeKinds.{kind_of, kind_with}
 use Rattle.java_resolver_parts.specs.LockTypes.{is_other, is_lock_type}
+use Rattle.java_resolver_parts.specs.ContainerTypes.{type_family, type_begun}
 
 -- ---- classes
 
@@ -74,6 +77,18 @@ abbrev pub is_lock_field : List (List ℕ) → FieldTree → Bool
 is_lock_field classes f =
     has_word (codes "final") f.modifiers && is_other (kind_of [] classes (ty_of f.kind)) && is_lock_type (ty_of f.kind)
 
+-- the family of a new object of this type, where no class of the folder is its type
+abbrev pub made_family : List (List ℕ) → Ty → Option Family
+made_family classes t = if is_other (kind_of [] classes t) then type_family t else None
+
+-- that of the container that a field holds: of a final one of no class of the folder, by the type of the object that it
+-- begins with
+abbrev pub field_family : List (List ℕ) → FieldTree → FieldVariable → Option Family
+field_family classes f v =
+    if has_word (codes "final") f.modifiers && is_other (kind_of [] classes (ty_of f.kind))
+    then option_and_then (made_family classes) (type_begun v.initialiser)
+    else None
+
 abbrev pub field_info : List (List ℕ) → ClassId → FieldTree → FieldVariable → FieldInfo
 field_info classes c f v =
     record {
@@ -85,6 +100,7 @@ field_info classes c f v =
       is_final = has_word (codes "final") f.modifiers;
       is_volatile = has_word (codes "volatile") f.modifiers;
       is_lock = is_lock_field classes f;
+      family = field_family classes f v;
     }
 
 abbrev pub member_fields : List (List ℕ) → ClassId → Member → List FieldInfo

@@ -125,6 +125,7 @@ field c name column is_static =
       is_final = false;
       is_volatile = false;
       is_lock = false;
+      family = None;
     }
 
 abbrev pub method : ℕ → List ℕ → ℕ → ℕ → MethodInfo

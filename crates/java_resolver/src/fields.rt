@@ -1,7 +1,8 @@
 //! Fields by their classes and names.
 ghost use Rattle.std.specs.Prelude.{◌≡◌, ◌++◌, map, IfOk, IfErr, OnOk, None, true, false};
 ghost use Rattle.std.specs.List.{flat_map};
-ghost use Rattle.java_resolver.specs.Declarations.{class_names, is_lock_field, field_info, member_fields};
+ghost use Rattle.java_resolver.specs.Declarations.{class_names, is_lock_field, field_family, field_info};
+ghost use Rattle.java_resolver.specs.Declarations.{member_fields};
 ghost use Rattle.java_resolver.specs.Meanings.{is_seen, field_named};
 ghost use Rattle.java_resolver.specs.Firsts.{first_that};
 ghost use Rattle.java_resolver.specs.Refusals.{duplicate_field};
@@ -13,7 +14,10 @@ use crate::fault::ResolveFault;
 use crate::infos::FieldInfo;
 use crate::kinds::kind_of;
 use crate::words::has_word;
-use java_resolver_parts::{Named, add_number, is_lock, no_numbers, number_at, number_of};
+use container_cells::Family;
+use java_resolver_parts::{
+    Named, add_number, family_held, is_lock, no_numbers, number_at, number_of, type_begun,
+};
 use java_tree::{ClassTree, FieldTree, FieldVariable, Member};
 use racer_base::{ClassId, FieldId, Memory};
 use std::alloc::Global;
@@ -124,6 +128,16 @@ fn is_lock_field(classes: &Classes, field: &FieldTree) -> bool
     is_lock(is_final, kind_of(None, classes, &field.kind), &field.kind)
 }
 
+/// The family of the container that a field holds, if it holds one.
+fn field_family(classes: &Classes, field: &FieldTree, variable: &FieldVariable) -> Option<Family>
+    ensures { result ≡ field_family (class_names classes.now) field.now variable.now }
+{
+    let made = type_begun(&variable.initialiser)?;
+    let is_final = has_word(field.modifiers.as_slice(), "final");
+    let declared = kind_of(None, classes, &field.kind);
+    family_held(is_final, declared, kind_of(None, classes, made), made)
+}
+
 /// What is known of a field.
 fn field_info(
     classes: &Classes,
@@ -143,6 +157,7 @@ fn field_info(
         is_final: has_word(modifiers, "final"),
         is_volatile: has_word(modifiers, "volatile"),
         is_lock: is_lock_field(classes, field),
+        family: field_family(classes, field, variable),
     })
 }
 

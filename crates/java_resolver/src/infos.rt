@@ -1,5 +1,6 @@
 //! What is known of classes, fields and methods by their names.
 use crate::hidden::Hidden;
+use container_cells::Family;
 use racer_base::{ClassId, Items, Kind, Place, Text};
 
 /// A class, with the place of its name (JLS 8.1).
@@ -22,6 +23,8 @@ pub struct FieldInfo {
     pub is_volatile: bool,
     /// Whether it is a lock field.
     pub is_lock: bool,
+    /// The family of the container that it holds, where it is a container field.
+    pub family: Option<Family>,
 }
 
 /// A method or a constructor, with the place of its name (JLS 8.4, 8.8). A constructor has the name `<new>`; one that

@@ -7,7 +7,8 @@ ghost use Rattle.java_resolver_parts.specs.LockTypes.{is_other, is_bare, is_lock
 use java_tree::{BaseType, TypePart, TypeTree};
 use racer_base::Kind;
 
-fn is_other(kind: Kind) -> bool
+/// Whether a kind is neither that of a primitive type nor that of a class of the folder.
+pub fn is_other(kind: Kind) -> bool
     ensures { result ≡ is_other kind }
 {
     match kind {

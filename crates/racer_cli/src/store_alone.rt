@@ -7,6 +7,7 @@ ghost use Rattle.core_code.specs.CalleeRows.{AreRowsOf};
 use super::*;
 use crate::tests::{Case, PLAIN, folder};
 use access_domain::{Access, Outcome, Summary};
+use container_cells::Containers;
 use core_code::{CallRows, Program, call_rows};
 use demand_pool::{WorkerContext, run_workers};
 use owner_domain::Value;
@@ -44,7 +45,7 @@ pub(crate) const TEN: Case = Case {
 /// The program of a row's folder.
 pub(crate) fn program(alloc: Global, row: &Case) -> Result<Arc<Program>, Fail> {
     let mut folder = folder(alloc, row)?;
-    match folder_program(alloc, &mut folder, "src") {
+    match folder_program(alloc, &mut folder, "src", Containers::Opaque) {
         Ok(FoundProgram::Accepted(program)) => Ok(Arc::new(alloc, program)?),
         _ => Err(Fail::from("no program")),
     }

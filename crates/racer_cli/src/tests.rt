@@ -30,7 +30,8 @@ pub(crate) struct Case<'a> {
 const EMPTY: &[u8] = b"racer report 1\nfiles 0 classes 0 methods 0\nwarnings 0 confirmed 0\n";
 
 const USAGE: &[u8] =
-    b"usage: racer (FOLDER | --made N) [--workers N] [--json] [--summaries] [--history] [--replay NAME]\n";
+    b"usage: racer (FOLDER | --made N) [--workers N] [--json] [--summaries] [--history] \
+    [--containers] [--replay NAME]\n";
 
 /// A report on an empty folder, into a sink that takes all at once.
 pub(crate) const PLAIN: Case = Case {
@@ -106,6 +107,10 @@ const CALLS: &[Case] = &[
     Case {
         words: &["--made", "1", "--history"],
         folder_fails: &[0],
+        ..WRONG
+    },
+    Case {
+        words: &["--made", "1", "--containers"],
         ..WRONG
     },
     Case {

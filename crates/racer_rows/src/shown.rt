@@ -5,6 +5,7 @@ use crate::replays::put_replays;
 use crate::reports::put_reports;
 use crate::tokens::{put_fault, put_tokens};
 use crate::units::put_unit;
+use container_cells::Containers;
 use core_code::Program;
 use java_lexer::lex;
 use racer_base::{FileId, Folder, FolderFault};
@@ -95,6 +96,14 @@ fn put_accepted<R: Threads + Sync>(
     Ok(())
 }
 
+/// What containers are in the folder of this name, which tells it by its end.
+fn containers_of(name: &str) -> Containers {
+    match name.ends_with("_with_containers") {
+        true => Containers::WithCells,
+        false => Containers::Opaque,
+    }
+}
+
 /// What is shown of the folder of this name, or the line of its refusal.
 fn put_folder<R: Threads + Sync>(
     rt: &R,
@@ -103,7 +112,7 @@ fn put_folder<R: Threads + Sync>(
     page: &mut Page,
     name: &str,
 ) -> Result<(), FolderFault> {
-    match folder_program(alloc, folder, name)? {
+    match folder_program(alloc, folder, name, containers_of(name))? {
         FoundProgram::Accepted(program) => put_accepted(rt, alloc, folder, page, name, program),
         FoundProgram::Refused(line) => {
             page.put(line.as_str());

@@ -3,6 +3,7 @@ use Rattle.std.proofs.Common.{◌≡◌, ℕ, ◌≤◌, Bool, false, cond, List
 use Rattle.std.specs.Prelude.{Ok}
 use Rattle.std.proofs.Common.{sym, ap, subst, ◌∙◌, nat_lt}
 use Rattle.serde_json.specs.Data.{Data}
+use Rattle.container_cells.specs.declared.cell.Containers.{Containers}
 use Rattle.racer_base.specs.Outside.{Told, Files}
 use Rattle.racer_base.specs.declared.limits.TheConstants.{MAX_FILE_BYTES}
 use Rattle.core_code.specs.Core.{Core}
@@ -13,7 +14,7 @@ use Rattle.witness_text.specs.Replaying.{DoWitnessesReplay}
 use Rattle.witness_text.specs.Verdicts.{verdict}
 use Rattle.racer_sources.specs.OneReading.{OneSource}
 use Rattle.racer_sources.specs.Sources.{contents, source_names}
-use Rattle.racer_sources.specs.Programs.{Source, Accepted, IsProgram}
+use Rattle.racer_sources.specs.Programs.{Source, Accepted, IsProgram, IsSource}
 use Rattle.racer_run.specs.declared.output.RunOutput.{RunOutput}
 use Rattle.racer_run.specs.declared.status.Status.{Status}
 use Rattle.racer_run.specs.declared.status.Status.TheVariants.{Clean}
@@ -38,8 +39,8 @@ answer request told s a v call =
 -- a program of sources, in whichever folder they are
 abbrev pub OneProgram : Type 0
 OneProgram =
-    (a b : Files) (program : Core) → source_names a ≡ source_names b → contents a ≡ contents b → IsProgram a program
-    → IsProgram b program
+    (containers : Containers) (a b : Files) (program : Core) → source_names a ≡ source_names b
+    → contents a ≡ contents b → IsProgram containers a program → IsProgram containers b program
 
 abbrev races : RunOutput
 races = record { status = Clean; text = codes "races\n" }
@@ -54,10 +55,10 @@ racing-said program bytes d short json file is racing =
     ∙ ap (file_said program) is
     ∙ ap verdict_said racing
 
-replay-races : (wanted : WantedReplay) (from to : Files) (source : Source) (said : RunOutput)
-    (cut : IsCutOut from to wanted.witness) → source ≡ Accepted cut.program → DoWitnessesReplay cut.program
+replay-races : (wanted : WantedReplay) (containers : Containers) (from to : Files) (source : Source) (said : RunOutput)
+    (cut : IsCutOut containers from to wanted.witness) → source ≡ Accepted cut.program → DoWitnessesReplay cut.program
     → IsReplaySaid wanted to source said → said ≡ races
-replay-races wanted from to source said cut same replays says =
+replay-races wanted containers from to source said cut same replays says =
     let at : IsReplaySaid wanted to (Accepted cut.program) said =
     subst (λ (s : Source). IsReplaySaid wanted to s said) same says in
     let bytes : at.0 ≡ cut.bytes = let e : Some at.0 ≡ Some cut.bytes = sym at.1 ∙ cut.stands in cc in
@@ -69,19 +70,23 @@ replay-races wanted from to source said cut same replays says =
 pub cut-replays : OneSource → OneProgram →
     (s t : Status) (a b : Invocation) (v w : Wrote) (from to : Told) (report : WantedReport)
     (replay : WantedReplay) → IsCall (ReportOn report) from s a v → IsCall (ReplayOf replay) to t b w
-    → IsCutOut from.files to.files replay.witness → (t ≡ Clean) × IsWhole w (codes "races\n")
-cut-replays one other s t a b v w from to report replay first second cut =
+    → IsCutOut report.containers from.files to.files replay.witness → replay.containers ≡ report.containers
+    → (t ≡ Clean) × IsWhole w (codes "races\n")
+cut-replays one other s t a b v w from to report replay first second cut containers =
     let x = answer (ReportOn report) from s a v first in
     let y = answer (ReplayOf replay) to t b w second in
     let said_x : SaysReport report from.files x.said = x.says in
     let said_y : SaysReplay replay to.files y.said = y.says in
     let replays : HasReplays (Accepted cut.program) =
-    subst HasReplays (one from.files said_x.source (Accepted cut.program) said_x.is cut.accepted) said_x.replays in
+    subst HasReplays (one report.containers from.files said_x.source (Accepted cut.program) said_x.is cut.accepted)
+    said_x.replays in
     let same : said_y.source ≡ Accepted cut.program =
-    one to.files said_y.source (Accepted cut.program) said_y.is
-    (other from.files to.files cut.program (sym cut.same_names) (sym cut.same_contents) cut.accepted) in
+    one report.containers to.files said_y.source (Accepted cut.program)
+    (subst (λ (c : Containers). IsSource c to.files said_y.source) containers said_y.is)
+    (other report.containers from.files to.files cut.program (sym cut.same_names) (sym cut.same_contents)
+    cut.accepted) in
     let is : y.said ≡ races =
-    replay-races replay from.files to.files said_y.source y.said cut same replays said_y.said_so in (
+    replay-races replay report.containers from.files to.files said_y.source y.said cut same replays said_y.said_so in (
       y.gives ∙ ap (λ (said : RunOutput). said.status) is,
       subst (IsWhole w) (ap (λ (said : RunOutput). said.text) is) y.whole,
     )

@@ -116,7 +116,7 @@ json-status program None = refl
 json-status program (Some d) = file-status program (file_of d)
 
 pub replay-says : (tells : Option Told) (wanted : WantedReplay) (program : Core) (said : RunOutput) (read : List ℕ)
-    → IfSome tells (λ told. IsSource told.files (Accepted program))
+    → IfSome tells (λ told. IsSource wanted.containers told.files (Accepted program))
     → IfSome tells (λ told. option_map (take (MAX_FILE_BYTES + 1)) (get told.files wanted.witness) ≡ Some read)
     → said ≡ replay_said program read → IfSome tells (λ told. SaysReplay wanted told.files said)
 replay-says None wanted program said read is bytes says = tt

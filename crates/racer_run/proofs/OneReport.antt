@@ -1,9 +1,10 @@
 -- Where the sources of a folder are one thing, two runs on it in one mode write one report, and two runs with the same
 -- words that ask for no history write the same bytes.
 use Rattle.std.proofs.Common.{◌≡◌, ◌≢◌, ℕ, Bool, false, List, [], ◌++◌, Option, Some, refl, sym, ap, subst, ◌∙◌}
+use Rattle.container_cells.specs.declared.cell.Containers.{Containers}
 use Rattle.racer_base.specs.Outside.{Told, Files, taken_and}
 use Rattle.racer_sources.specs.OneReading.{OneSource}
-use Rattle.racer_sources.specs.Programs.{Source, Refusal, Accepted}
+use Rattle.racer_sources.specs.Programs.{Source, IsSource, Refusal, Accepted}
 use Rattle.racer_run.specs.declared.output.RunOutput.{RunOutput}
 use Rattle.racer_run.specs.declared.status.Status.{Status}
 use Rattle.racer_run.specs.declared.status.Status.TheVariants.{Memory}
@@ -22,14 +23,17 @@ at_folder request tells told s wrote e h = subst (λ (o : Option Told). IsWholeA
 
 -- whole answers to two who want a report in one mode
 both_written : OneSource → (told : Told) (first second : WantedReport) (s t : Status) (v w : Wrote)
-    → first.mode ≡ second.mode → IsWholeAnswer (ReportOn first) (Some told) s v
-    → IsWholeAnswer (ReportOn second) (Some told) t w → (s ≡ t) × WroteOneReport told.files first second v w
-both_written one told first second s t v w mode f g =
+    → first.mode ≡ second.mode → first.containers ≡ second.containers
+    → IsWholeAnswer (ReportOn first) (Some told) s v → IsWholeAnswer (ReportOn second) (Some told) t w
+    → (s ≡ t) × WroteOneReport told.files first second v w
+both_written one told first second s t v w mode containers f g =
     let a : SaysReport first told.files f.said = f.says in
     let b : SaysReport second told.files g.said = g.says in
-    let same = report_only one told.files first second f.said g.said mode a b in
-    let sources : a.source ≡ b.source = one told.files a.source b.source a.is b.is in (
-      f.gives ∙ report_status one told.files first second f.said g.said mode a b ∙ sym g.gives,
+    let same = report_only one told.files first second f.said g.said mode containers a b in
+    let is : IsSource second.containers told.files a.source =
+    subst (λ (c : Containers). IsSource c told.files a.source) containers a.is in
+    let sources : a.source ≡ b.source = one second.containers told.files a.source b.source is b.is in (
+      f.gives ∙ report_status one told.files first second f.said g.said mode containers a b ∙ sym g.gives,
       record {
         source = a.source;
         is = a.is;
@@ -58,15 +62,15 @@ whole_of s asked wrote kept (cut e g) = absurd (rose _ _ g.front.fault kept)
 pub same_report : OneSource → (s t : Status) (a b : Invocation) (v w : Wrote) (told : Told)
     (first second : WantedReport)
     → request_of a.words ≡ Some (ReportOn first) → request_of b.words ≡ Some (ReportOn second)
-    → first.folder ≡ second.folder → first.mode ≡ second.mode
+    → first.folder ≡ second.folder → first.mode ≡ second.mode → first.containers ≡ second.containers
     → a.told ≡ Some told → b.told ≡ Some told → a.after ≡ a.before → b.after ≡ b.before
     → v.after ≡ v.before → w.after ≡ w.before → s ≢ Memory → t ≢ Memory
     → IsCause s a v → IsCause t b w → (s ≡ t) × WroteOneReport told.files first second v w
-same_report one s t a b v w told first second asks_a asks_b folder mode tells_a tells_b quiet_a quiet_b kept_v kept_w
-    m n f g =
+same_report one s t a b v w told first second asks_a asks_b folder mode containers tells_a tells_b quiet_a quiet_b
+    kept_v kept_w m n f g =
     let x = whole_of s a v kept_v (ending_of s a v m f) in
     let y = whole_of t b w kept_w (ending_of t b w n g) in
-    both_written one told first second s t v w mode
+    both_written one told first second s t v w mode containers
     (at_folder (ReportOn first) a.told told s v tells_a
     (whole_answer s a v x.text x.due x.whole (ReportOn first) asks_a quiet_a))
     (at_folder (ReportOn second) b.told told t w tells_b
@@ -109,7 +113,7 @@ request_bytes : OneSource → (request : Request) (told : Told) (s t : Status) (
     → (s ≡ t) × (((wanted : WantedReport) → request ≡ ReportOn wanted → wanted.history ≡ false)
     → v.taken_after ≡ w.taken_after)
 request_bytes one (ReportOn wanted) told s t v w before f g =
-    let both = both_written one told wanted wanted s t v w refl f g in
+    let both = both_written one told wanted wanted s t v w refl refl f g in
     (both.0, (λ none. report_bytes told.files wanted v w (none wanted refl) before both.1))
 request_bytes one (ReplayOf wanted) told s t v w before f g =
     let both = one_answer (ReplayOf wanted) (Some told) s t v w before f g
@@ -152,6 +156,6 @@ same_bytes one s t a b v w told words tells_a tells_b quiet_a quiet_b before kep
       both.0,
       both.1,
       (λ wanted asks.
-          (same_report one s t a b v w told wanted wanted asks (requests ∙ asks) refl refl tells_a tells_b quiet_a
-          quiet_b kept_v kept_w m n f g).1),
+          (same_report one s t a b v w told wanted wanted asks (requests ∙ asks) refl refl refl tells_a tells_b
+          quiet_a quiet_b kept_v kept_w m n f g).1),
     )

@@ -3,10 +3,12 @@ use Rattle.std.proofs.Common.{◌≡◌, ◌≢◌, ℕ, ◌<◌, Bool, true, fa
 use Rattle.std.proofs.Common.{sym, ap, subst, ◌∙◌, arith}
 use Rattle.std.specs.Option.{IfSome}
 use Rattle.core_code.specs.Core.{Core}
+use Rattle.container_cells.specs.declared.cell.Containers.{Containers}
+use Rattle.container_cells.specs.declared.cell.Containers.TheVariants.{Opaque}
 use Rattle.racer_base.specs.Outside.{Told, Files}
 use Rattle.race_report_modes.specs.declared.Mode.{Mode}
 use Rattle.racer_sources.specs.OneReading.{OneSource}
-use Rattle.racer_sources.specs.Programs.{Source, Refusal, Accepted}
+use Rattle.racer_sources.specs.Programs.{Source, IsSource, Refusal, Accepted}
 use Rattle.racer_run.specs.declared.output.RunOutput.{RunOutput}
 use Rattle.racer_run.specs.declared.status.Status.{Status}
 use Rattle.racer_run.specs.declared.status.Status.TheVariants.{Clean, Warned, Usage, FolderFault, SinkFault, Refused}
@@ -132,17 +134,19 @@ whole_cause Memory asked wrote text due is_whole = absurd due
 -- ---- what is said of one folder in one mode is one, but for the history
 
 pub report_only : OneSource → (files : Files) (first second : WantedReport) (a b : RunOutput) → first.mode ≡ second.mode
-    → (f : SaysReport first files a) (g : SaysReport second files b)
+    → first.containers ≡ second.containers → (f : SaysReport first files a) (g : SaysReport second files b)
     → said_from first.mode f.source ≡ said_from second.mode g.source
-report_only one files first second a b mode f g =
+report_only one files first second a b mode containers f g =
     ap (λ (m : Mode). said_from m f.source) mode
-    ∙ ap (said_from second.mode) (one files f.source g.source f.is g.is)
+    ∙ ap (said_from second.mode) (one second.containers files f.source g.source
+    (subst (λ (c : Containers). IsSource c files f.source) containers f.is) g.is)
 
 pub report_status : OneSource → (files : Files) (first second : WantedReport) (a b : RunOutput)
-    → first.mode ≡ second.mode → SaysReport first files a → SaysReport second files b → a.status ≡ b.status
-report_status one files first second a b mode f g =
+    → first.mode ≡ second.mode → first.containers ≡ second.containers → SaysReport first files a
+    → SaysReport second files b → a.status ≡ b.status
+report_status one files first second a b mode containers f g =
     ap (λ (said : RunOutput). said.status) f.said_so
-    ∙ ap (λ (said : RunOutput). said.status) (report_only one files first second a b mode f g)
+    ∙ ap (λ (said : RunOutput). said.status) (report_only one files first second a b mode containers f g)
     ∙ sym (ap (λ (said : RunOutput). said.status) g.said_so)
 
 -- ---- what is said of one witness, and of one made folder, is one
@@ -158,7 +162,8 @@ pub replay_only : OneSource → (files : Files) (wanted : WantedReplay) (a b : R
     → SaysReplay wanted files b → a ≡ b
 replay_only one files wanted a b f g =
     same_replay wanted files g.source a b
-    (subst (λ (source : Source). IsReplaySaid wanted files source a) (one files f.source g.source f.is g.is) f.said_so)
+    (subst (λ (source : Source). IsReplaySaid wanted files source a)
+    (one wanted.containers files f.source g.source f.is g.is) f.said_so)
     g.said_so
 
 same_program : (p q : Core) → Accepted p ≡ Accepted q → p ≡ q
@@ -168,12 +173,12 @@ pub made_only : OneSource → (wanted : WantedMade) (a b : RunOutput) → SaysMa
 made_only one wanted a b f g =
     f.said_so
     ∙ ap (made_said wanted.number) (same_program f.program g.program
-    (one (made_files wanted.number) (Accepted f.program) (Accepted g.program) f.is g.is))
+    (one Opaque (made_files wanted.number) (Accepted f.program) (Accepted g.program) f.is g.is))
     ∙ sym g.said_so
 
 status_only : OneSource → (request : Request) (told : Told) (a b : RunOutput) → Says request (Some told) a
     → Says request (Some told) b → a.status ≡ b.status
-status_only one (ReportOn wanted) told a b f g = report_status one told.files wanted wanted a b refl f g
+status_only one (ReportOn wanted) told a b f g = report_status one told.files wanted wanted a b refl refl f g
 status_only one (ReplayOf wanted) told a b f g =
     ap (λ (said : RunOutput). said.status) (replay_only one told.files wanted a b f g)
 status_only one (MadeOf wanted) told a b f g = ap (λ (said : RunOutput). said.status) (made_only one wanted a b f g)

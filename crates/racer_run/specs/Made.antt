@@ -1,6 +1,7 @@
 -- A contract of a public call rests on this: what is said of a made folder.
 use Rattle.std.specs.Prelude.{◌≡◌, ℕ}
 use Rattle.std.specs.FinMap.{from_entries}
+use Rattle.container_cells.specs.declared.cell.Containers.TheVariants.{Opaque}
 use Rattle.racer_base.specs.Outside.{Files}
 use Rattle.core_code.specs.Core.{Core}
 use Rattle.race_pairs.specs.Warnings.{warnings}
@@ -22,5 +23,5 @@ made_said number program =
 -- this is what is said to one who wants a made folder
 pub record SaysMade (wanted : WantedMade) (said : RunOutput) : Type 0 where
   pub program : Core
-  pub is : IsProgram (made_files wanted.number) program
+  pub is : IsProgram Opaque (made_files wanted.number) program
   pub said_so : said ≡ made_said wanted.number program

@@ -65,5 +65,5 @@ IsReplaySaid wanted files (Accepted program) said =
 -- this is what is said to one who wants a replay over a folder with these files
 pub record SaysReplay (wanted : WantedReplay) (files : Files) (said : RunOutput) : Type 0 where
   pub source : Source
-  pub is : IsSource files source
+  pub is : IsSource wanted.containers files source
   pub said_so : IsReplaySaid wanted files source said

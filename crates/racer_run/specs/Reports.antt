@@ -16,10 +16,11 @@ pub record WroteReport (wanted : WantedReport) (source : Source) (report : List 
   pub is_behind : IsBehind wanted source tail
   pub taken : wrote.taken_after ≡ taken_and wrote.taken_before (report ++ tail)
 
--- one report was written to two sinks, for one who wants this and for one who wants that: the report on the files
+-- one report was written to two sinks, for one who wants this and for one who wants that with the same containers: the
+-- report on the files
 pub record WroteOneReport (files : Files) (first second : WantedReport) (to_first to_second : Wrote) : Type 0 where
   pub source : Source
-  pub is : IsSource files source
+  pub is : IsSource first.containers files source
   pub report : List ℕ
   pub report_is : report ≡ (said_from first.mode source).text
   pub wrote_first : WroteReport first source report to_first

@@ -21,7 +21,7 @@ use Rattle.racer_words.specs.Words.{WantedReport}
 abbrev pub usage_text : List ℕ
 usage_text =
     codes
-    "usage: racer (FOLDER | --made N) [--workers N] [--json] [--summaries] [--history] [--replay NAME]\n"
+    "usage: racer (FOLDER | --made N) [--workers N] [--json] [--summaries] [--history] [--containers] [--replay NAME]\n"
 
 abbrev pub fault_text : List ℕ
 fault_text = codes "folder fault\n"
@@ -70,7 +70,7 @@ with_tail said tail = record { status = said.status; text = said.text ++ tail }
 -- this is what is said to one who wants a report on a folder with these files
 pub record SaysReport (wanted : WantedReport) (files : Files) (said : RunOutput) : Type 0 where
   pub source : Source
-  pub is : IsSource files source
+  pub is : IsSource wanted.containers files source
   pub tail : List ℕ
   pub is_behind : IsBehind wanted source tail
   pub said_so : said ≡ with_tail (said_from wanted.mode source) tail

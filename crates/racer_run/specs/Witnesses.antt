@@ -5,6 +5,7 @@ use Rattle.std.specs.List.{Contains}
 use Rattle.std.specs.FinMap.{get}
 use Rattle.serde_json.specs.Data.{Data}
 use Rattle.serde_json.specs.Find.{get as member}
+use Rattle.container_cells.specs.declared.cell.Containers.{Containers}
 use Rattle.racer_base.specs.Outside.{Told, Files}
 use Rattle.racer_base.specs.declared.limits.TheConstants.{MAX_FILE_BYTES}
 use Rattle.core_code.specs.Core.{Core}
@@ -42,10 +43,11 @@ pub record IsReportedWitness (program : Core) (bytes : List ℕ) : Type 0 where
   pub is_member : member (codes "witness") (mark_value program sides (warning_mark program warning)) ≡ Some value
   pub is_json : IsJson bytes value
 
--- a witness that is cut out of the report on one folder, and stands in another that has the same sources
-pub record IsCutOut (from to : Files) (name : List ℕ) : Type 0 where
+-- a witness that is cut out of the report on one folder, where containers are this, and stands in another that has the
+-- same sources
+pub record IsCutOut (containers : Containers) (from to : Files) (name : List ℕ) : Type 0 where
   pub program : Core
-  pub accepted : IsSource from (Accepted program)
+  pub accepted : IsSource containers from (Accepted program)
   pub bytes : List ℕ
   pub reported : IsReportedWitness program bytes
   pub short : length bytes ≤ MAX_FILE_BYTES

@@ -19,7 +19,8 @@ use std::thread::Threads;
 
 /// The usage line.
 const USAGE: &str =
-    "usage: racer (FOLDER | --made N) [--workers N] [--json] [--summaries] [--history] [--replay NAME]\n";
+    "usage: racer (FOLDER | --made N) [--workers N] [--json] [--summaries] [--history] \
+    [--containers] [--replay NAME]\n";
 
 /// What is said to a request.
 fn answered<R: Threads + Wait + Sync, F: Folder, G: Gate + Sync>(

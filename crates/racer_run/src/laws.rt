@@ -36,12 +36,13 @@ pub fn same_bytes()
 }
 
 /// The report is the same for any number of workers, and with a history or without: two runs whose words ask for the
-/// same folder in the same mode, on folders that tell the same and without a fault, end with one status and write one
-/// report, unless memory was refused. Behind it stands the history, in a run whose words ask for it, and else nothing.
+/// same folder in the same mode and with the same containers, on folders that tell the same and without a fault, end
+/// with one status and write one report, unless memory was refused. Behind it stands the history, in a run whose words
+/// ask for it, and else nothing.
 pub fn same_report()
     ensures { (s t : Status) (a b : Invocation) (v w : Wrote) (told : Told) (first second : WantedReport) →
         request_of a.words ≡ Some (ReportOn first) → request_of b.words ≡ Some (ReportOn second) →
-        first.folder ≡ second.folder → first.mode ≡ second.mode →
+        first.folder ≡ second.folder → first.mode ≡ second.mode → first.containers ≡ second.containers →
         a.told ≡ Some told → b.told ≡ Some told → a.after ≡ a.before → b.after ≡ b.before →
         v.after ≡ v.before → w.after ≡ w.before → s ≢ Memory → t ≢ Memory →
         IsCause s a v → IsCause t b w → (s ≡ t) × WroteOneReport told.files first second v w }
@@ -50,14 +51,15 @@ pub fn same_report()
 }
 
 /// A witness that a user cuts out of a JSON report, with at most 1 MiB, and puts into a folder with the same sources,
-/// replays: a call that asks for it there ends clean, and writes that the threads race. The member `witness` that is
-/// cut out is that of the report on the program that the sources of a first call are, in whichever mode that call wrote
-/// it.
+/// replays: a call that asks for it there with the same containers ends clean, and writes that the threads race. The
+/// member `witness` that is cut out is that of the report on the program that the sources of a first call are, in
+/// whichever mode that call wrote it.
 pub fn cut_witnesses_replay()
     ensures { (s t : Status) (a b : Invocation) (v w : Wrote) (from to : Told) (report : WantedReport)
         (replay : WantedReplay) →
         IsCall (ReportOn report) from s a v → IsCall (ReplayOf replay) to t b w →
-        IsCutOut from.files to.files replay.witness → (t ≡ Clean) × IsWhole w (codes "races\n") }
+        IsCutOut report.containers from.files to.files replay.witness → replay.containers ≡ report.containers →
+        (t ≡ Clean) × IsWhole w (codes "races\n") }
 {
     one_source();
     other_files_are_not_seen();

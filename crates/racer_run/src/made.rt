@@ -1,6 +1,7 @@
 //! Reports on made folders, in numbers.
 ghost use Rattle.std.specs.Prelude.{◌≡◌, ◌<◌, ◌≤◌, IfOk, true};
 ghost use Rattle.std.specs.Arc.{arc_value};
+ghost use Rattle.container_cells.specs.declared.cell.Containers.TheVariants.{Opaque};
 ghost use Rattle.core_code.specs.Program.{core};
 ghost use Rattle.access_domain.specs.Outcomes.{AreOutcomes};
 ghost use Rattle.racer_sources.specs.Programs.{IsProgram};
@@ -11,6 +12,7 @@ ghost use Rattle.racer_run.specs.Statuses.{is_made_status};
 use crate::output::RunOutput;
 use crate::reports::{pooled, status_of};
 use access_domain::Outcomes;
+use container_cells::Containers;
 use core_code::Program;
 use demand_pool::Pooled;
 use folder_maker::made;
@@ -29,10 +31,10 @@ use std::thread::Threads;
 /// No such folder is refused: all of them were tried, and none of this rests on it.
 fn made_program(alloc: Global, number: u32) -> Result<Program, Memory>
     requires { number ≤ 800 }
-    ensures { IfOk result (λ program. IsProgram (made_files number) (core program)) }
+    ensures { IfOk result (λ program. IsProgram Opaque (made_files number) (core program)) }
 {
     let mut folder = made(alloc, number)?;
-    match folder_program(alloc, &mut folder, "made") {
+    match folder_program(alloc, &mut folder, "made", Containers::Opaque) {
         Ok(FoundProgram::Accepted(program)) => Ok(program),
         Ok(FoundProgram::Refused(_)) => Err(Memory),
         Err(FolderFault::Memory) => Err(Memory),

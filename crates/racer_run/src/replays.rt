@@ -94,7 +94,7 @@ pub fn replayed_on<F: Folder>(
     ensures steady { F.steady folder.old → IfSome (F.told folder.old) (λ told.
         wanted.now.folder ≡ told.name → contains_key told.files wanted.now.witness ≡ true → FailsByMemory result) }
 {
-    match folder_program(alloc, folder, wanted.folder.as_str())? {
+    match folder_program(alloc, folder, wanted.folder.as_str(), wanted.containers)? {
         FoundProgram::Accepted(program) => {
             let bytes = folder.read(alloc, wanted.witness.as_str(), MAX_FILE_BYTES + 1)?;
             Ok(replayed(alloc, &program, bytes.as_slice())?)

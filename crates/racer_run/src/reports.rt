@@ -175,6 +175,6 @@ pub fn reported_on<R: Threads + Wait + Sync, F: Folder, G: Gate + Sync>(
     ensures steady { F.steady folder.old →
         IfSome (F.told folder.old) (λ told. wanted.now.folder ≡ told.name → FailsByMemory result) }
 {
-    let found = folder_program(alloc, folder, wanted.folder.as_str())?;
+    let found = folder_program(alloc, folder, wanted.folder.as_str(), wanted.containers)?;
     Ok(said_of_found(rt, alloc, wanted, found, gate)?)
 }

@@ -2,6 +2,7 @@
 use Rattle.std.proofs.Common.{◌≡◌, ℕ, suc, ◌≤◌, List, [], ◌∷◌, length, map, ap, subst, arith, ◌∙◌}
 use Rattle.std.proofs.Common.{Option, None, Some, string_bytes}
 use Rattle.std.specs.Option.{IfSome}
+use Rattle.container_cells.specs.declared.cell.Containers.{Containers}
 use Rattle.racer_base.specs.Outside.{Told, Files}
 use Rattle.std.specs.Prelude.{IsTrue}
 use Rattle.java_tree.specs.declared.unit.Unit as unit
@@ -44,27 +45,27 @@ pub names_known : HaveNames → (names : List (List ℕ)) (us : List unit.Unit) 
 names_known law names us t known = law us (from_tokens 0 us known.read)
 
 -- what accepted sources are lowered to is what the sources are
-lowered_source : (files : Files) (s : AcceptedSources) (f : FoundProgram) → AreAccepted (contents files) s.units.items
-    → map string_bytes s.names.items ≡ source_names files →
-    IsLoweredFrom (map string_bytes s.names.items) s.units.items f
-    → IsSource files (source_of f)
-lowered_source files s (found.Accepted program) accepted names low =
+lowered_source : (containers : Containers) (files : Files) (s : AcceptedSources) (f : FoundProgram)
+    → AreAccepted (contents files) s.units.items → map string_bytes s.names.items ≡ source_names files →
+    IsLoweredFrom containers (map string_bytes s.names.items) s.units.items f
+    → IsSource containers files (source_of f)
+lowered_source containers files s (found.Accepted program) accepted names low =
     record {
       units = s.units.items;
       accepted = accepted;
       few = low.0;
-      lowered = subst (λ (ns : List (List ℕ)). IsLowered ns s.units.items (core program)) names low.1;
+      lowered = subst (λ (ns : List (List ℕ)). IsLowered containers ns s.units.items (core program)) names low.1;
     }
-lowered_source files s (found.Refused line) accepted names low = (
+lowered_source containers files s (found.Refused line) accepted names low = (
   TooManyCalls low.0,
   record { units = s.units.items; accepted = accepted; counted = low.1; many = low.2 },
   low.3 ∙ ap (λ (ns : List (List ℕ)). refusal_line ns (TooManyCalls low.0)) names,
 )
 
-pub lowered_there : (o : Option Told) (s : AcceptedSources) (f : FoundProgram)
+pub lowered_there : (containers : Containers) (o : Option Told) (s : AcceptedSources) (f : FoundProgram)
     → IfSome o (λ (t : Told). AreAccepted (contents t.files) s.units.items
     × (map string_bytes s.names.items ≡ source_names t.files))
-    → IsLoweredFrom (map string_bytes s.names.items) s.units.items f
-    → IfSome o (λ (t : Told). IsSource t.files (source_of f))
-lowered_there None s f accepted low = tt
-lowered_there (Some t) s f accepted low = lowered_source t.files s f accepted.0 accepted.1 low
+    → IsLoweredFrom containers (map string_bytes s.names.items) s.units.items f
+    → IfSome o (λ (t : Told). IsSource containers t.files (source_of f))
+lowered_there containers None s f accepted low = tt
+lowered_there containers (Some t) s f accepted low = lowered_source containers t.files s f accepted.0 accepted.1 low

@@ -4,6 +4,7 @@ use Rattle.std.proofs.Common.{subst}
 use Rattle.std.proofs.Common.{◌∙◌, arith, ◌↔◌}
 use Rattle.std.specs.Prelude.{IsTrue}
 use Rattle.std.proofs.lemmas.Bool.{false≢true}
+use Rattle.container_cells.specs.declared.cell.Containers.{Containers}
 use Rattle.racer_base.specs.Outside.{Files}
 use Rattle.racer_base.specs.declared.limits.TheConstants.{MAX_FILES}
 use Rattle.java_tree.specs.declared.unit.Unit as unit
@@ -33,14 +34,14 @@ declared_refusal (resolve.TooManyClasses n) = TooManyClasses n
 declared_refusal (resolve.TooManyMethods n) = TooManyMethods n
 declared_refusal resolve.Memory = TooManyCalls 0
 
-module _ (files : Files) where
+module _ (containers : Containers) (files : Files) where
   data Kind (r : refusals.Refusal) : Type 0 where
     many : (n : ℕ) → r ≡ TooManyFiles n → n ≡ length (contents files) → MAX_FILES < n → Kind r
     one : IsFileRefused (contents files) r → Kind r
     together : (f : ResolveFault) → r ≡ declared_refusal f → AreRefusedUnits (contents files) f → Kind r
-    calls : (n : ℕ) → r ≡ TooManyCalls n → HasTooManyCalls files n → Kind r
+    calls : (n : ℕ) → r ≡ TooManyCalls n → HasTooManyCalls containers files n → Kind r
 
-  kind : (r : refusals.Refusal) → AreRefusedFor files r → Kind r
+  kind : (r : refusals.Refusal) → AreRefusedFor containers files r → Kind r
   kind (TooManyFiles n) h = many n refl h.0 h.1
   kind (TooLong f) h = one h
   kind (TooManyBytes n) h = one h
@@ -78,41 +79,41 @@ same_flag false true P f g = absurd (false≢true (f.1 (g.0 refl)))
 same_flags : (core : Core) (f g : List Bool) → TellRecursion core f → TellRecursion core g → flag_of f ≡ flag_of g
 same_flags core f g d e = λ i m. same_flag (flag_of f m) (flag_of g m) (IsRecursive core m) (d m) (e m) i
 
-module _ (reading : OneReading) (files : Files) where
+module _ (reading : OneReading) (containers : Containers) (files : Files) where
   alike : (us vs : List unit.Unit) → AreRead (contents files) us → AreRead (contents files) vs → AreAlike us vs
   alike us vs h k = reading (contents files) us vs h.read k.read
 
-  same_calls : (us vs : List unit.Unit) → AreAlike us vs → calls_of us ≡ calls_of vs
-  same_calls us vs same = ap call_edges (same.programs [] (λ m. true))
+  same_calls : (us vs : List unit.Unit) → AreAlike us vs → calls_of containers us ≡ calls_of containers vs
+  same_calls us vs same = ap call_edges (same.programs containers [] (λ m. true))
 
-  lowered_once : (us vs : List unit.Unit) (p q : Core) → AreAlike us vs → IsLowered (source_names files) us p
-      → IsLowered (source_names files) vs q → p ≡ q
+  lowered_once : (us vs : List unit.Unit) (p q : Core) → AreAlike us vs → IsLowered containers (source_names files) us p
+      → IsLowered containers (source_names files) vs q → p ≡ q
   lowered_once us vs p q same f g =
       let told = subst (λ (core : Core). TellRecursion core f.flags)
-      (same.programs (source_names files) (λ m. true)) f.recursive in
-      f.program ∙ same.programs (source_names files) (flag_of f.flags)
-      ∙ ap (program_of (source_names files) vs)
-      (same_flags (draft_of (source_names files) vs) f.flags g.flags told g.recursive)
+      (same.programs containers (source_names files) (λ m. true)) f.recursive in
+      f.program ∙ same.programs containers (source_names files) (flag_of f.flags)
+      ∙ ap (program_of containers (source_names files) vs)
+      (same_flags (draft_of containers (source_names files) vs) f.flags g.flags told g.recursive)
       ∙ sym g.program
 
-  by_kinds : (r q : refusals.Refusal) → Kind files r → Kind files q → r ≡ q
+  by_kinds : (r q : refusals.Refusal) → Kind containers files r → Kind containers files q → r ≡ q
   by_kinds r q (many n e h i) (many m f k l) = e ∙ ap TooManyFiles (h ∙ sym k) ∙ sym f
-  by_kinds r q (many n e h i) (one k) = absurd (not_few files n h i k.few)
-  by_kinds r q (many n e h i) (together g f k) = absurd (not_few files n h i k.read.few)
-  by_kinds r q (many n e h i) (calls m f k) = absurd (not_few files n h i k.accepted.read.few)
-  by_kinds r q (one h) (many m f k l) = absurd (not_few files m k l h.few)
+  by_kinds r q (many n e h i) (one k) = absurd (not_few containers files n h i k.few)
+  by_kinds r q (many n e h i) (together g f k) = absurd (not_few containers files n h i k.read.few)
+  by_kinds r q (many n e h i) (calls m f k) = absurd (not_few containers files n h i k.accepted.read.few)
+  by_kinds r q (one h) (many m f k l) = absurd (not_few containers files m k l h.few)
   by_kinds r q (one h) (one k) = one_refusal 0 0 (contents files) r q h.one k.one
   by_kinds r q (one h) (together g f k) = absurd (refused_or_read 0 0 (contents files) r k.units h.one k.read.read)
   by_kinds r q (one h) (calls m f k) = absurd
       (refused_or_read 0 0 (contents files) r k.units h.one k.accepted.read.read)
-  by_kinds r q (together g e h) (many m f k l) = absurd (not_few files m k l h.read.few)
+  by_kinds r q (together g e h) (many m f k l) = absurd (not_few containers files m k l h.read.few)
   by_kinds r q (together g e h) (one k) = absurd (refused_or_read 0 0 (contents files) q h.units k.one h.read.read)
   by_kinds r q (together g e h) (together i f k) =
       e ∙ ap declared_refusal
       (same_fault _ _ g i (alike h.units k.units h.read k.read).refusals h.some k.some) ∙ sym f
   by_kinds r q (together g e h) (calls m f k) =
       absurd (no_fault _ _ g (alike h.units k.units h.read k.accepted.read).refusals h.some k.accepted.none)
-  by_kinds r q (calls n e h) (many m f k l) = absurd (not_few files m k l h.accepted.read.few)
+  by_kinds r q (calls n e h) (many m f k l) = absurd (not_few containers files m k l h.accepted.read.few)
   by_kinds r q (calls n e h) (one k) = absurd
       (refused_or_read 0 0 (contents files) q h.units k.one h.accepted.read.read)
   by_kinds r q (calls n e h) (together i f k) =
@@ -122,8 +123,8 @@ module _ (reading : OneReading) (files : Files) where
       (alike h.units k.units h.accepted.read k.accepted.read) ∙ k.counted)
       ∙ sym f
 
-  not_program : (r : refusals.Refusal) (p : Core) → Kind files r → IsProgram files p → ⊥
-  not_program r p (many n e h i) is = not_few files n h i is.accepted.read.few
+  not_program : (r : refusals.Refusal) (p : Core) → Kind containers files r → IsProgram containers files p → ⊥
+  not_program r p (many n e h i) is = not_few containers files n h i is.accepted.read.few
   not_program r p (one h) is = refused_or_read 0 0 (contents files) r is.units h.one is.accepted.read.read
   not_program r p (together g e h) is =
       no_fault _ _ g (alike h.units is.units h.read is.accepted.read).refusals h.some is.accepted.none
@@ -131,15 +132,15 @@ module _ (reading : OneReading) (files : Files) where
       let same = same_calls h.units is.units (alike h.units is.units h.accepted.read is.accepted.read) in
       let few = is.few in let many = h.many in let counted = h.counted in omega (arith, same)
 
-  only : (a b : Source) → IsSource files a → IsSource files b → a ≡ b
+  only : (a b : Source) → IsSource containers files a → IsSource containers files b → a ≡ b
   only (Refusal x) (Refusal y) f g =
       ap Refusal (f.2 ∙ ap (refusal_line (source_names files))
-      (by_kinds f.0 g.0 (kind files f.0 f.1) (kind files g.0 g.1)) ∙ sym g.2)
-  only (Refusal x) (Accepted q) f g = absurd (not_program f.0 q (kind files f.0 f.1) g)
-  only (Accepted p) (Refusal y) f g = absurd (not_program g.0 p (kind files g.0 g.1) f)
+      (by_kinds f.0 g.0 (kind containers files f.0 f.1) (kind containers files g.0 g.1)) ∙ sym g.2)
+  only (Refusal x) (Accepted q) f g = absurd (not_program f.0 q (kind containers files f.0 f.1) g)
+  only (Accepted p) (Refusal y) f g = absurd (not_program g.0 p (kind containers files g.0 g.1) f)
   only (Accepted p) (Accepted q) f g =
       ap Accepted (lowered_once f.units g.units p q
       (alike f.units g.units f.accepted.read g.accepted.read) f.lowered g.lowered)
 
 pub one_source : OneReading → OneSource
-one_source reading files a b f g = only reading files a b f g
+one_source reading containers files a b f g = only reading containers files a b f g

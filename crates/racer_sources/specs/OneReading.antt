@@ -1,6 +1,7 @@
 -- A contract of a public call rests on this: the laws `one_reading` and `one_source`. That the sources of a folder are
 -- one thing.
 use Rattle.std.specs.Prelude.{◌≡◌, ℕ, Bool, List}
+use Rattle.container_cells.specs.declared.cell.Containers.{Containers}
 use Rattle.racer_base.specs.Outside.{Files}
 use Rattle.racer_base.specs.declared.ids.MethodId.{MethodId}
 use Rattle.java_tree.specs.declared.unit.Unit as unit
@@ -9,11 +10,11 @@ use Rattle.core_lowering_rules.specs.Programs.{program_of}
 use Rattle.racer_sources.specs.Sources.{AreReadFrom}
 use Rattle.racer_sources.specs.Programs.{Source, IsSource}
 
--- units that are refused alike, and have one program whichever methods are recursive
+-- units that are refused alike, and have one program whatever containers are, and whichever methods are recursive
 pub record AreAlike (us vs : List unit.Unit) : Type 0 where
   pub refusals : refusal us ≡ refusal vs
-  pub programs : (names : List (List ℕ)) (is_recursive : MethodId → Bool)
-      → program_of names us is_recursive ≡ program_of names vs is_recursive
+  pub programs : (containers : Containers) (names : List (List ℕ)) (is_recursive : MethodId → Bool)
+      → program_of containers names us is_recursive ≡ program_of containers names vs is_recursive
 
 -- the same files are read as units that are alike
 abbrev pub OneReading : Type 0
@@ -23,4 +24,6 @@ OneReading =
 
 -- the sources of each folder are one thing
 abbrev pub OneSource : Type 0
-OneSource = (files : Files) (a b : Source) → IsSource files a → IsSource files b → a ≡ b
+OneSource =
+    (containers : Containers) (files : Files) (a b : Source) → IsSource containers files a
+    → IsSource containers files b → a ≡ b

@@ -1,5 +1,6 @@
 -- A contract of a public call rests on this: what the sources of a folder are: a program, or refused with a line.
 use Rattle.std.specs.Prelude.{◌≡◌, ℕ, ◌<◌, ◌≤◌, List}
+use Rattle.container_cells.specs.declared.cell.Containers.{Containers}
 use Rattle.racer_base.specs.Outside.{Files}
 use Rattle.racer_base.specs.declared.limits.TheConstants.{MAX_CALL_EDGES}
 use Rattle.java_tree.specs.declared.unit.Unit as unit
@@ -18,30 +19,30 @@ pub data Source : Type 0 where
   Refusal : (line : List ℕ) → Source
   Accepted : (program : Core) → Source
 
--- they are accepted, and their units are lowered to this program
-pub record IsProgram (files : Files) (program : Core) : Type 0 where
+-- they are accepted, and their units are lowered to this program, where containers are this
+pub record IsProgram (containers : Containers) (files : Files) (program : Core) : Type 0 where
   pub units : List unit.Unit
   pub accepted : AreAccepted (contents files) units
-  pub few : calls_of units ≤ MAX_CALL_EDGES
-  pub lowered : IsLowered (source_names files) units program
+  pub few : calls_of containers units ≤ MAX_CALL_EDGES
+  pub lowered : IsLowered containers (source_names files) units program
 
 -- they are accepted but for their calls, of which there are so many
-pub record HasTooManyCalls (files : Files) (n : ℕ) : Type 0 where
+pub record HasTooManyCalls (containers : Containers) (files : Files) (n : ℕ) : Type 0 where
   pub units : List unit.Unit
   pub accepted : AreAccepted (contents files) units
-  pub counted : calls_of units ≡ n
+  pub counted : calls_of containers units ≡ n
   pub many : MAX_CALL_EDGES < n
 
 -- they are refused so
-abbrev pub AreRefusedFor : Files → refusal.Refusal → Type 0
-AreRefusedFor files (TooManyCalls n) = HasTooManyCalls files n
-AreRefusedFor files r = AreRefused (contents files) r
+abbrev pub AreRefusedFor : Containers → Files → refusal.Refusal → Type 0
+AreRefusedFor containers files (TooManyCalls n) = HasTooManyCalls containers files n
+AreRefusedFor containers files r = AreRefused (contents files) r
 
--- this is what the sources of a folder with these files are
-abbrev pub IsSource : Files → Source → Type 0
-IsSource files (Refusal line) =
-    (r : refusal.Refusal) × AreRefusedFor files r × (line ≡ refusal_line (source_names files) r)
-IsSource files (Accepted program) = IsProgram files program
+-- this is what the sources of a folder with these files are, where containers are this
+abbrev pub IsSource : Containers → Files → Source → Type 0
+IsSource containers files (Refusal line) =
+    (r : refusal.Refusal) × AreRefusedFor containers files r × (line ≡ refusal_line (source_names files) r)
+IsSource containers files (Accepted program) = IsProgram containers files program
 
 -- what is found as a source
 abbrev pub source_of : FoundProgram → Source

@@ -2,6 +2,7 @@
 //! same have.
 ghost use Rattle.std.specs.Prelude.{◌≡◌, ℕ, List};
 ghost use Rattle.std.specs.List.{AllZip};
+ghost use Rattle.container_cells.specs.declared.cell.Containers.{Containers};
 ghost use Rattle.java_lexer.specs.declared.token.Token.{Token};
 ghost use Rattle.java_tree.specs.declared.unit.Unit as unit;
 ghost use Rattle.java_parser_grammar.specs.Units.{IsUnit};
@@ -21,8 +22,8 @@ pub fn one_program_of_tokens()
     ensures same { (tokens : List (List Token)) (us vs : List unit.Unit) → AllZip IsUnit tokens us
         → AllZip IsUnit tokens vs → AllZip SameUnit us vs }
     ensures lowered { (tokens : List (List Token)) (us vs : List unit.Unit) → AllZip IsUnit tokens us
-        → AllZip IsUnit tokens vs → (files : List (List ℕ)) (p q : Core) → IsLowered files us p
-        → IsLowered files vs q → p ≡ q }
+        → AllZip IsUnit tokens vs → (containers : Containers) (files : List (List ℕ)) (p q : Core)
+        → IsLowered containers files us p → IsLowered containers files vs q → p ≡ q }
 {
     one_unit();
     one_program();
@@ -46,6 +47,6 @@ pub fn one_source()
 /// Whether the sources of a folder are this program depends on their names and their bytes alone, whatever other files
 /// the folder has.
 pub fn other_files_are_not_seen()
-    ensures { (a b : Files) (program : Core) → source_names a ≡ source_names b → contents a ≡ contents b
-        → IsProgram a program → IsProgram b program }
+    ensures { (containers : Containers) (a b : Files) (program : Core) → source_names a ≡ source_names b
+        → contents a ≡ contents b → IsProgram containers a program → IsProgram containers b program }
 {}

@@ -5,6 +5,7 @@ use Rattle.std.proofs.Common.{refl}
 use Rattle.std.specs.Prelude.{option_map, nat_lt}
 use Rattle.std.specs.Option.{option_or}
 use Rattle.std.proofs.lemmas.Bool.{cases_lt}
+use Rattle.container_cells.specs.declared.cell.Containers.{Containers}
 use Rattle.racer_base.specs.declared.limits.TheConstants.{MAX_CALL_EDGES, MAX_CLASSES, MAX_METHODS}
 use Rattle.java_tree.specs.declared.unit.Unit as unit
 use Rattle.java_resolver.specs.declared.fault.ResolveFault.{ResolveFault}
@@ -71,19 +72,20 @@ tables us = by (refusal us) refl (told us) where
   by None e h = inl (table-of us, record { classes = refl; fields = refl; methods = refl }, e)
   by (Some fault) e h = inr (fault, h, e)
 
-abbrev AnyLowered : List (List ℕ) → List unit.Unit → Type 0
-AnyLowered files us =
-    ((core : Core) × IsLowered files us core × (calls_of us ≤ MAX_CALL_EDGES))
-    ⊎ IsFault us (TooManyCalls (calls_of us))
+abbrev AnyLowered : Containers → List (List ℕ) → List unit.Unit → Type 0
+AnyLowered containers files us =
+    ((core : Core) × IsLowered containers files us core × (calls_of containers us ≤ MAX_CALL_EDGES))
+    ⊎ IsFault containers us (TooManyCalls (calls_of containers us))
 
 pub lowering : IsTotalRecursion → IsTotalLowering
-lowering recursion files us = by (cases_lt MAX_CALL_EDGES (calls_of us)) (recursion (draft_of files us)) where
-  by : (MAX_CALL_EDGES < calls_of us) ⊎ (calls_of us ≤ MAX_CALL_EDGES)
-      → (flags : List Bool) × TellRecursion (draft_of files us) flags → AnyLowered files us
-  by (inl many) r = inr (refl, many)
-  by (inr few) r =
-      inl (
-        program_of files us (flag_of r.0),
-        record { flags = r.0; recursive = r.1; program = refl },
-        few,
-      )
+lowering recursion containers files us =
+    by (cases_lt MAX_CALL_EDGES (calls_of containers us)) (recursion (draft_of containers files us)) where
+      by : (MAX_CALL_EDGES < calls_of containers us) ⊎ (calls_of containers us ≤ MAX_CALL_EDGES)
+          → (flags : List Bool) × TellRecursion (draft_of containers files us) flags → AnyLowered containers files us
+      by (inl many) r = inr (refl, many)
+      by (inr few) r =
+          inl (
+            program_of containers files us (flag_of r.0),
+            record { flags = r.0; recursive = r.1; program = refl },
+            few,
+          )

@@ -4,6 +4,7 @@ use Rattle.std.proofs.Common.{Some, None, Result, Ok, Err, length, refl, arith}
 use Rattle.std.specs.Str.{is_utf8}
 use Rattle.std.specs.Str.Lossy.{utf8_valid_len}
 use Rattle.std.proofs.lemmas.Bool.{cases_lt}
+use Rattle.container_cells.specs.declared.cell.Containers.{Containers}
 use Rattle.racer_base.specs.Outside.{Files}
 use Rattle.racer_base.specs.declared.ids.FileId.{FileId}
 use Rattle.racer_base.specs.declared.limits.TheConstants.{MAX_FILES, MAX_FILE_BYTES, MAX_FOLDER_BYTES, MAX_CALL_EDGES}
@@ -64,10 +65,12 @@ never-memory file bytes e = by (is_utf8 bytes) e where
 record Refused (P : refusals.Refusal → Type 0) : Type 0 where
   refusal : refusals.Refusal
   is : P refusal
-  whole : (files : Files) → IsFileRefused (contents files) refusal → AreRefusedFor files refusal
+  whole : (containers : Containers) (files : Files) → IsFileRefused (contents files) refusal
+      → AreRefusedFor containers files refusal
 
 abbrev refused : {P : refusals.Refusal → Type 0} (r : refusals.Refusal) → P r
-    → ((files : Files) → IsFileRefused (contents files) r → AreRefusedFor files r) → Refused P
+    → ((containers : Containers) (files : Files) → IsFileRefused (contents files) r → AreRefusedFor containers files r)
+    → Refused P
 refused r is whole = record { refusal = r; is = is; whole = whole }
 
 module _ (total : IsTotalUnits) (tokens : AreTokensFew) (file : FileId) (sum : ℕ) (bytes : List ℕ) where
@@ -81,11 +84,11 @@ module _ (total : IsTotalUnits) (tokens : AreTokensFew) (file : FileId) (sum : �
   with-fault : IsShort sum bytes → (lexed : Lexed) → lexed_answer file bytes ≡ Ok lexed → (f : ParseFault)
       → units.IsTold f → IsFault lexed.tokens lexed.end f → OneFile
   with-fault short lexed e (parse.Unbalanced p) is h =
-      inr (refused (told.Unbalanced p) (no-unit short lexed e (parse.Unbalanced p) is h) (λ files r. r))
+      inr (refused (told.Unbalanced p) (no-unit short lexed e (parse.Unbalanced p) is h) (λ containers files r. r))
   with-fault short lexed e (parse.TooDeep p) is h =
-      inr (refused (told.TooDeep p) (no-unit short lexed e (parse.TooDeep p) is h) (λ files r. r))
+      inr (refused (told.TooDeep p) (no-unit short lexed e (parse.TooDeep p) is h) (λ containers files r. r))
   with-fault short lexed e (parse.NotAUnit p) is h =
-      inr (refused (told.NotAUnit p) (no-unit short lexed e (parse.NotAUnit p) is h) (λ files r. r))
+      inr (refused (told.NotAUnit p) (no-unit short lexed e (parse.NotAUnit p) is h) (λ containers files r. r))
   with-fault short lexed e parse.Memory is h = absurd is
 
   with-tokens : IsShort sum bytes → (lexed : Lexed) → lexed_answer file bytes ≡ Ok lexed
@@ -99,13 +102,13 @@ module _ (total : IsTotalUnits) (tokens : AreTokensFew) (file : FileId) (sum : �
 
   without-tokens : IsShort sum bytes → (f : LexFault) → lexed_answer file bytes ≡ Err f → OneFile
   without-tokens short (lexical.NotUtf8 n) e =
-      inr (refused (told.NotUtf8 file n) (refl, no-tokens short (lexical.NotUtf8 n) e) (λ files r. r))
+      inr (refused (told.NotUtf8 file n) (refl, no-tokens short (lexical.NotUtf8 n) e) (λ containers files r. r))
   without-tokens short (lexical.BadCharacter p) e =
-      inr (refused (told.BadCharacter p) (no-tokens short (lexical.BadCharacter p) e) (λ files r. r))
+      inr (refused (told.BadCharacter p) (no-tokens short (lexical.BadCharacter p) e) (λ containers files r. r))
   without-tokens short (lexical.Unclosed p) e =
-      inr (refused (told.Unclosed p) (no-tokens short (lexical.Unclosed p) e) (λ files r. r))
+      inr (refused (told.Unclosed p) (no-tokens short (lexical.Unclosed p) e) (λ containers files r. r))
   without-tokens short (lexical.BadLiteral p) e =
-      inr (refused (told.BadLiteral p) (no-tokens short (lexical.BadLiteral p) e) (λ files r. r))
+      inr (refused (told.BadLiteral p) (no-tokens short (lexical.BadLiteral p) e) (λ containers files r. r))
   without-tokens short lexical.Memory e = absurd (never-memory file bytes e)
 
   short-file : IsShort sum bytes → OneFile
@@ -120,8 +123,8 @@ module _ (total : IsTotalUnits) (tokens : AreTokensFew) (file : FileId) (sum : �
   one-file = by (cases_lt MAX_FILE_BYTES (length bytes)) (cases_lt MAX_FOLDER_BYTES sum) where
     by : (MAX_FILE_BYTES < length bytes) ⊎ (length bytes ≤ MAX_FILE_BYTES)
         → (MAX_FOLDER_BYTES < sum) ⊎ (sum ≤ MAX_FOLDER_BYTES) → OneFile
-    by (inl long) o = inr (refused (told.TooLong file) (refl, long) (λ files r. r))
-    by (inr few) (inl many) = inr (refused (told.TooManyBytes sum) (refl, few, many) (λ files r. r))
+    by (inl long) o = inr (refused (told.TooLong file) (refl, long) (λ containers files r. r))
+    by (inr few) (inl many) = inr (refused (told.TooManyBytes sum) (refl, few, many) (λ containers files r. r))
     by (inr few) (inr less) = short-file (record { file = few; together = less })
 
 -- ---- files one after the other
@@ -143,21 +146,21 @@ module _ (total : IsTotalUnits) (tokens : AreTokensFew) where
 
 -- ---- all of them
 
-module _ (tables : IsTotalTables) (lowering : IsTotalLowering) (files : Files) where
+module _ (tables : IsTotalTables) (lowering : IsTotalLowering) (containers : Containers) (files : Files) where
   abbrev ASource : Type 0
-  ASource = (source : Source) × IsSource files source
+  ASource = (source : Source) × IsSource containers files source
 
-  refused-so : (r : refusals.Refusal) → AreRefusedFor files r → ASource
+  refused-so : (r : refusals.Refusal) → AreRefusedFor containers files r → ASource
   refused-so r is = (Refusal (refusal_line (source_names files) r), (r, is, refl))
 
   with-calls : (us : List unit.Unit) → AreAccepted (contents files) us
-      → ((core : Core) × IsLowered (source_names files) us core × (calls_of us ≤ MAX_CALL_EDGES))
-      ⊎ lowered.IsFault us (lower.TooManyCalls (calls_of us))
+      → ((core : Core) × IsLowered containers (source_names files) us core × (calls_of containers us ≤ MAX_CALL_EDGES))
+      ⊎ lowered.IsFault containers us (lower.TooManyCalls (calls_of containers us))
       → ASource
   with-calls us accepted (inl p) =
       (Accepted p.0, record { units = us; accepted = accepted; few = p.2; lowered = p.1 })
   with-calls us accepted (inr many) =
-      refused-so (told.TooManyCalls (calls_of us))
+      refused-so (told.TooManyCalls (calls_of containers us))
       (record { units = us; accepted = accepted; counted = refl; many = many.1 })
 
   refused-units : (us : List unit.Unit) → AreRead (contents files) us → (f : ResolveFault) → refusal us ≡ Some f
@@ -181,14 +184,14 @@ module _ (tables : IsTotalTables) (lowering : IsTotalLowering) (files : Files) w
       ⊎ ((fault : ResolveFault) × IsTold fault × (refusal us ≡ Some fault))
       → ASource
   with-units us read (inl t) =
-      with-calls us (record { read = read; none = t.2 }) (lowering (source_names files) us)
+      with-calls us (record { read = read; none = t.2 }) (lowering containers (source_names files) us)
   with-units us read (inr f) = with-refusal us read f.0 f.1 f.2
 
   few-files : length (contents files) ≤ MAX_FILES
       → ((us : List unit.Unit) × AreReadFrom 0 0 (contents files) us) ⊎ Refused (IsOneRefused 0 0 (contents files))
       → ASource
   few-files few (inl us) = with-units us.0 (record { few = few; read = us.1 }) (tables us.0)
-  few-files few (inr r) = refused-so r.refusal (r.whole files (record { few = few; one = r.is }))
+  few-files few (inr r) = refused-so r.refusal (r.whole containers files (record { few = few; one = r.is }))
 
   a-source : ((us : List unit.Unit) × AreReadFrom 0 0 (contents files) us) ⊎ Refused (IsOneRefused 0 0 (contents files))
       → ASource
@@ -198,10 +201,10 @@ module _ (tables : IsTotalTables) (lowering : IsTotalLowering) (files : Files) w
     by (inr few) = few-files few read
 
 pub sources : IsTotalUnits → AreTokensFew → IsTotalTables → IsTotalLowering → IsTotalSource
-sources total tokens tables lowering files =
-    a-source tables lowering files (some-files total tokens 0 0 (contents files))
+sources total tokens tables lowering containers files =
+    a-source tables lowering containers files (some-files total tokens 0 0 (contents files))
 
 pub only-source : IsTotalSource → OneSource → HasOnlySource
-only-source total one files = of (total files) where
-  of : (source : Source) × IsSource files source → (source : Source) × IsOnlySource files source
-  of s = (s.0, record { is = s.1; only = λ other is. one files other s.0 is s.1 })
+only-source total one containers files = of (total containers files) where
+  of : (source : Source) × IsSource containers files source → (source : Source) × IsOnlySource containers files source
+  of s = (s.0, record { is = s.1; only = λ other is. one containers files other s.0 is s.1 })

@@ -2,6 +2,7 @@
 -- `lowering_is_total`. That it is told of each program which methods are recursive; that numbers fall along calls where
 -- none is; that units have a table, or are refused; and that they have a program, or too many calls.
 use Rattle.std.specs.Prelude.{◌≡◌, ℕ, ◌<◌, ◌≤◌, ◌⊎◌, Bool, List, Some, None, length}
+use Rattle.container_cells.specs.declared.cell.Containers.{Containers}
 use Rattle.racer_base.specs.declared.ids.MethodId.{MethodId}
 use Rattle.racer_base.specs.declared.limits.TheConstants.{MAX_CALL_EDGES}
 use Rattle.java_tree.specs.declared.unit.Unit as unit
@@ -71,6 +72,6 @@ IsTotalTables = (us : List unit.Unit)
 
 -- all units have a program, or too many calls
 abbrev pub IsTotalLowering : Type 0
-IsTotalLowering = (files : List (List ℕ)) (us : List unit.Unit)
-    → ((core : Core) × IsLowered files us core × (calls_of us ≤ MAX_CALL_EDGES))
-    ⊎ IsFault us (TooManyCalls (calls_of us))
+IsTotalLowering = (containers : Containers) (files : List (List ℕ)) (us : List unit.Unit)
+    → ((core : Core) × IsLowered containers files us core × (calls_of containers us ≤ MAX_CALL_EDGES))
+    ⊎ IsFault containers us (TooManyCalls (calls_of containers us))

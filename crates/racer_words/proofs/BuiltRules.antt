@@ -3,6 +3,7 @@ use Rattle.std.proofs.Common.{◌≡◌, true, List, [], ◌∷◌, Some, None, 
 use Rattle.clap.specs.Walk.{Rule, arg_by_id, arg_by_index}
 use Rattle.clap.specs.Simple.{Shape, built, filled, with_index, new_shape}
 use Rattle.racer_words.specs.Uses.{Label, Folder, Workers, Replay, Made, Json, Summaries, History, name_of}
+use Rattle.racer_words.specs.Uses.{Containers}
 use Rattle.racer_words.specs.Uses.{labels}
 use Rattle.racer_words.specs.Command.{command, rule_of_label}
 
@@ -33,6 +34,7 @@ by_id Made = refl
 by_id Json = refl
 by_id Summaries = refl
 by_id History = refl
+by_id Containers = refl
 
 pub first_index : arg_by_index all 1 ≡ Some (built_rule Folder)
 first_index = refl

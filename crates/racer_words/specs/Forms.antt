@@ -19,3 +19,4 @@ label_view label.Made = uses.Made
 label_view label.Json = uses.Json
 label_view label.Summaries = uses.Summaries
 label_view label.History = uses.History
+label_view label.Containers = uses.Containers

@@ -13,6 +13,7 @@ line_view l = record {
   json = l.json;
   summaries = l.summaries;
   history = l.history;
+  containers = l.containers;
 }
 
 abbrev pub flag_text : Bool → Word
@@ -27,3 +28,4 @@ pub record IsOf (rows : List Row) (l : Line) : Type 0 where
   pub json : (b : Bool) → one_of (codes "json") rows ≡ Some (flag_text b) → l.json ≡ b
   pub summaries : (b : Bool) → one_of (codes "summaries") rows ≡ Some (flag_text b) → l.summaries ≡ b
   pub history : (b : Bool) → one_of (codes "history") rows ≡ Some (flag_text b) → l.history ≡ b
+  pub containers : (b : Bool) → one_of (codes "containers") rows ≡ Some (flag_text b) → l.containers ≡ b

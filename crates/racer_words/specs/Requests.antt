@@ -9,10 +9,17 @@ use Rattle.racer_words.specs.Words as words
 -- what is seen of a wanted report
 abbrev pub wanted_of : WantedReport → words.WantedReport
 wanted_of wanted =
-    record { folder = wanted.folder; mode = wanted.mode; workers = wanted.workers; history = wanted.history }
+    record {
+      folder = wanted.folder;
+      mode = wanted.mode;
+      workers = wanted.workers;
+      history = wanted.history;
+      containers = wanted.containers;
+    }
 
 abbrev pub replay_of : WantedReplay → words.WantedReplay
-replay_of wanted = record { folder = wanted.folder; witness = wanted.witness }
+replay_of wanted =
+    record { folder = wanted.folder; witness = wanted.witness; containers = wanted.containers }
 
 abbrev pub made_of : WantedMade → words.WantedMade
 made_of wanted = record { number = wanted.number; workers = wanted.workers }

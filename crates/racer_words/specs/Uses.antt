@@ -16,6 +16,7 @@ pub data Label : Type 0 where
   Json : Label
   Summaries : Label
   History : Label
+  Containers : Label
 
 abbrev pub name_of : Label → Word
 name_of Folder = codes "FOLDER"
@@ -25,16 +26,18 @@ name_of Made = codes "made"
 name_of Json = codes "json"
 name_of Summaries = codes "summaries"
 name_of History = codes "history"
+name_of Containers = codes "containers"
 
 abbrev pub takes_value : Label → Bool
 takes_value Json = false
 takes_value Summaries = false
 takes_value History = false
+takes_value Containers = false
 takes_value _ = true
 
 -- all that have a name
 abbrev pub labels : List Label
-labels = Workers ∷ Replay ∷ Made ∷ Json ∷ Summaries ∷ History ∷ []
+labels = Workers ∷ Replay ∷ Made ∷ Json ∷ Summaries ∷ History ∷ Containers ∷ []
 
 abbrev pub label_of : Word → Option Label
 label_of name = find (λ l. bytes_eq (name_of l) name) labels
@@ -120,6 +123,7 @@ pub record Line : Type 0 where
   pub json : Bool
   pub summaries : Bool
   pub history : Bool
+  pub containers : Bool
 
 abbrev pub line_of : List Use → Line
 line_of us = record {
@@ -130,6 +134,7 @@ line_of us = record {
   json = has Json us;
   summaries = has Summaries us;
   history = has History us;
+  containers = has Containers us;
 }
 
 abbrev pub line : List Word → Option Line

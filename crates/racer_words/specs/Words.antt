@@ -2,24 +2,28 @@
 use Rattle.std.specs.Prelude.{ℕ, Bool, not, ◌&&◌, ◌||◌, List, [], ◌∷◌, Option, None, Some, codes, bytes_eq}
 use Rattle.std.specs.Prelude.{is_some, option_map, option_and_then, if◌then◌else◌}
 use Rattle.std.specs.List.{list_all, list_any}
+use Rattle.container_cells.specs.declared.cell.Containers.{Containers}
+use Rattle.container_cells.specs.declared.cell.Containers.TheVariants.{Opaque, WithCells}
 use Rattle.race_report_modes.specs.declared.Format.{Format}
 use Rattle.race_report_modes.specs.declared.Format.TheVariants.{Text, Json as AsJson}
 use Rattle.race_report_modes.specs.declared.Mode.{Mode}
 use Rattle.racer_words_numbers.specs.Numbers.{up_to, workers_of}
 use Rattle.racer_words.specs.Uses.{Word, Line, Label, Folder, Workers, Json, Summaries, History, labels, name_of, line}
-use Rattle.racer_words.specs.Uses.{Replay as LabelReplay, Made as LabelMade}
+use Rattle.racer_words.specs.Uses.{Replay as LabelReplay, Made as LabelMade, Containers as LabelContainers}
 
--- a report on the folder of this name, by so many workers, with their history or without
+-- a report on the folder of this name, by so many workers, with their history or without, where containers are this
 pub record WantedReport : Type 0 where
   pub folder : Word
   pub mode : Mode
   pub workers : ℕ
   pub history : Bool
+  pub containers : Containers
 
--- the replay of the witness in this file of the folder of this name
+-- the replay of the witness in this file of the folder of this name, where containers are this
 pub record WantedReplay : Type 0 where
   pub folder : Word
   pub witness : Word
+  pub containers : Containers
 
 -- a report in numbers on a folder made of so many classes, by so many workers
 pub record WantedMade : Type 0 where
@@ -45,8 +49,8 @@ pub data Form : Type 0 where
 
 -- the table: what may stand on a command line of each form
 abbrev pub stands_on : Form → List Label
-stands_on ForReport = Folder ∷ Workers ∷ Json ∷ Summaries ∷ History ∷ []
-stands_on ForReplay = Folder ∷ LabelReplay ∷ []
+stands_on ForReport = Folder ∷ Workers ∷ Json ∷ Summaries ∷ History ∷ LabelContainers ∷ []
+stands_on ForReplay = Folder ∷ LabelReplay ∷ LabelContainers ∷ []
 stands_on ForMade = LabelMade ∷ Workers ∷ []
 
 -- the form of a line, by the option that stands there for it
@@ -61,6 +65,7 @@ is_given line LabelMade = is_some line.made
 is_given line Json = line.json
 is_given line Summaries = line.summaries
 is_given line History = line.history
+is_given line LabelContainers = line.containers
 
 abbrev pub may_stand : Form → Label → Bool
 may_stand form label = list_any (λ l. bytes_eq (name_of l) (name_of label)) (stands_on form)
@@ -80,18 +85,29 @@ format_of json = if json then AsJson else Text
 abbrev pub mode_of : Line → Mode
 mode_of line = record { format = format_of line.json; summaries = line.summaries }
 
+abbrev pub containers_of : Bool → Containers
+containers_of given = if given then WithCells else Opaque
+
 abbrev pub report_by : Line → Word → ℕ → Request
 report_by line folder workers =
-    ReportOn (record { folder = folder; mode = mode_of line; workers = workers; history = line.history })
+    ReportOn (record {
+      folder = folder;
+      mode = mode_of line;
+      workers = workers;
+      history = line.history;
+      containers = containers_of line.containers;
+    })
 
 -- a report on the folder
 abbrev pub report : Line → Word → Option Request
 report line folder = if is_name folder then option_map (report_by line folder) (workers_of line.workers) else None
 
 -- the replay of a witness of the folder
-abbrev pub replay : Word → Word → Option Request
-replay folder witness =
-    if is_name folder && is_name witness then Some (ReplayOf (record { folder = folder; witness = witness })) else None
+abbrev pub replay : Containers → Word → Word → Option Request
+replay containers folder witness =
+    if is_name folder && is_name witness
+    then Some (ReplayOf (record { folder = folder; witness = witness; containers = containers }))
+    else None
 
 abbrev pub made_by : ℕ → ℕ → Request
 made_by number workers = MadeOf (record { number = number; workers = workers })
@@ -104,7 +120,8 @@ made line count = option_and_then (λ n. option_map (made_by n) (workers_of line
 abbrev pub asked_as : Form → Line → Option Request
 asked_as ForReport line = option_and_then (report line) line.folder
 asked_as ForReplay line =
-    option_and_then (λ folder. option_and_then (replay folder) line.replay) line.folder
+    option_and_then (λ folder. option_and_then (replay (containers_of line.containers) folder) line.replay)
+    line.folder
 asked_as ForMade line = option_and_then (made line) line.made
 
 abbrev pub asked_by : Line → Option Request

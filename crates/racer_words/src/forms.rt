@@ -25,6 +25,7 @@ pub enum Label {
     Json,
     Summaries,
     History,
+    Containers,
 }
 
 /// All of them.
@@ -36,6 +37,7 @@ const LABELS: &[Label] = &[
     Label::Json,
     Label::Summaries,
     Label::History,
+    Label::Containers,
 ];
 
 /// The form of a line, by the option that stands there for it.
@@ -60,6 +62,7 @@ fn is_given(line: &GivenLine<'_>, label: Label) -> bool
         Label::Json => line.json,
         Label::Summaries => line.summaries,
         Label::History => line.history,
+        Label::Containers => line.containers,
     }
 }
 
@@ -69,7 +72,7 @@ fn may_stand(form: Form, label: Label) -> bool
 {
     match form {
         Form::Report => !matches!(label, Label::Replay | Label::Made),
-        Form::Replay => matches!(label, Label::Folder | Label::Replay),
+        Form::Replay => matches!(label, Label::Folder | Label::Replay | Label::Containers),
         Form::Made => matches!(label, Label::Made | Label::Workers),
     }
 }

@@ -4,10 +4,11 @@ ghost use Rattle.racer_words.specs.Uses.{line};
 ghost use Rattle.clap.specs.Matches.{found_of};
 ghost use Rattle.clap.specs.Walk.{rows_of};
 ghost use Rattle.racer_words.specs.Lines.{IsOf, line_view};
-ghost use Rattle.racer_words.specs.Words.{mode_of};
+ghost use Rattle.racer_words.specs.Words.{containers_of, mode_of};
 
 use crate::command::matched;
 use clap::ArgMatches;
+use container_cells::Containers;
 use race_report_modes::{Format, Mode};
 use racer_base::Memory;
 use std::alloc::Global;
@@ -22,6 +23,7 @@ pub struct GivenLine<'a> {
     pub json: bool,
     pub summaries: bool,
     pub history: bool,
+    pub containers: bool,
 }
 
 impl GivenLine<'_> {
@@ -38,6 +40,17 @@ impl GivenLine<'_> {
             summaries: self.summaries,
         }
     }
+
+    /// What containers are to the code of the folder.
+    pub fn containers(&self) -> Containers
+        ensures { result ≡ containers_of (line_view self.now).containers }
+    {
+        if self.containers {
+            Containers::WithCells
+        } else {
+            Containers::Opaque
+        }
+    }
 }
 
 fn line_of<'a>(matches: &ArgMatches<'a>) -> GivenLine<'a>
@@ -51,6 +64,7 @@ fn line_of<'a>(matches: &ArgMatches<'a>) -> GivenLine<'a>
         json: matches.get_flag("json"),
         summaries: matches.get_flag("summaries"),
         history: matches.get_flag("history"),
+        containers: matches.get_flag("containers"),
     }
 }
 

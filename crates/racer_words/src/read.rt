@@ -8,6 +8,7 @@ ghost use Rattle.racer_words.specs.Words.{asked_as, asked_by, is_name, report, r
 use crate::forms::{Form, form_of, stands_right};
 use crate::line::{GivenLine, given_line};
 use crate::request::{Request, WantedMade, WantedReplay, WantedReport};
+use container_cells::Containers;
 use racer_base::{Memory, Text};
 use racer_words_numbers::{made_of, workers_of};
 use std::alloc::Global;
@@ -33,19 +34,29 @@ fn report(alloc: Global, folder: &str, line: &GivenLine<'_>) -> Result<Option<Re
         mode: line.mode(),
         workers,
         history: line.history,
+        containers: line.containers(),
     })))
 }
 
 /// The replay of a witness of the folder.
-fn replay(alloc: Global, folder: &str, witness: &str) -> Result<Option<Request>, Memory>
-    ensures { IfOk result (λ r. option_map seen r ≡ replay folder.now witness.now) }
+fn replay(
+    alloc: Global,
+    folder: &str,
+    witness: &str,
+    containers: Containers,
+) -> Result<Option<Request>, Memory>
+    ensures { IfOk result (λ r. option_map seen r ≡ replay containers folder.now witness.now) }
 {
     if !is_name(folder) || !is_name(witness) {
         return Ok(None);
     }
     let folder = Text::from_str(alloc, folder)?;
     let witness = Text::from_str(alloc, witness)?;
-    Ok(Some(Request::ReplayOf(WantedReplay { folder, witness })))
+    Ok(Some(Request::ReplayOf(WantedReplay {
+        folder,
+        witness,
+        containers,
+    })))
 }
 
 /// A folder made of so many classes.
@@ -63,7 +74,9 @@ fn asked_as(alloc: Global, form: Form, line: &GivenLine<'_>) -> Result<Option<Re
 {
     match (form, line.folder, line.replay, line.made) {
         (Form::Report, Some(folder), _, _) => report(alloc, folder, line),
-        (Form::Replay, Some(folder), Some(witness), _) => replay(alloc, folder, witness),
+        (Form::Replay, Some(folder), Some(witness), _) => {
+            replay(alloc, folder, witness, line.containers())
+        }
         (Form::Made, _, _, Some(count)) => Ok(made(count, line)),
         _ => Ok(None),
     }
@@ -80,8 +93,9 @@ fn asked_by(alloc: Global, line: &GivenLine<'_>) -> Result<Option<Request>, Memo
 }
 
 /// What the words behind the program's name ask for, or nothing where they are no command line: `FOLDER`, with
-/// `--workers N`, `--json`, `--summaries`, `--history` in any order; `FOLDER --replay NAME`; or `--made N`, with
-/// `--workers N`. A value may also stand behind `=`, and behind `--` a word that begins with a minus sign is a folder.
+/// `--workers N`, `--json`, `--summaries`, `--history`, `--containers` in any order; `FOLDER --replay NAME`, with
+/// `--containers`; or `--made N`, with `--workers N`. A value may also stand behind `=`, and behind `--` a word that
+/// begins with a minus sign is a folder.
 pub fn read_words(alloc: Global, words: &[String]) -> Result<Option<Request>, Memory>
     ensures { IfOk result (λ r. option_map seen r ≡ request_of (map string_bytes words.now)) }
 {

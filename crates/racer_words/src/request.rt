@@ -1,6 +1,7 @@
 //! What can be asked for.
 ghost use Rattle.std.specs.Prelude.{◌<◌, ◌≤◌};
 
+use container_cells::Containers;
 use race_report_modes::Mode;
 use racer_base::Text;
 
@@ -12,21 +13,23 @@ pub enum Request {
     MadeOf(WantedMade),
 }
 
-/// A report on the folder of this name, by 1 to 64 workers, with their history or without.
+/// A report on the folder of this name, by 1 to 64 workers, with their history or without, where containers are this.
 #[derive(Drop)]
 pub struct WantedReport {
     pub folder: Text,
     pub mode: Mode,
     pub workers: u32,
     pub history: bool,
+    pub containers: Containers,
     pub ghost in_range: { (0 < workers) × (workers ≤ 64) },
 }
 
-/// The replay of a witness: the folder, and the name of the witness's file in it.
+/// The replay of a witness: the folder, the name of the witness's file in it, and what containers are.
 #[derive(Drop)]
 pub struct WantedReplay {
     pub folder: Text,
     pub witness: Text,
+    pub containers: Containers,
 }
 
 /// A report in numbers on a folder made of up to 800 classes, by 1 to 64 workers.

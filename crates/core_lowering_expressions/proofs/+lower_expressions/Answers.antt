@@ -14,6 +14,7 @@ use Rattle.java_tree.specs.View.{ty_of}
 use Rattle.java_resolver.specs.Meanings.{field_named}
 use Rattle.core_code.specs.declared.code.Op.TheVariants.{Prim}
 use Rattle.core_lowering_rules.specs.Trees.{Expr, Init, Selected, CallOn, Conditional, pack_exprs}
+use Rattle.core_lowering_rules.specs.Trees.{count_exprs}
 use Rattle.core_lowering_rules.specs.TreesOf.{access_of, expr_of, is_assignment, assignment, is_logical, binary}
 use Rattle.core_lowering_rules.specs.TreesOf.{is_count, prefix, first_type}
 use Rattle.core_lowering_rules.specs.ValueKinds.{Of, common_kind}
@@ -35,6 +36,9 @@ use Rattle.core_lowering_expressions.proofs.Made.{prefix-code, prefix-kind, oper
 use Rattle.core_lowering_expressions.proofs.Made.{selected-made, selected-same, class-selected, conditional-made}
 use Rattle.core_lowering_expressions.proofs.Made.{call-made, call-kind, on-class, on-class-kind}
 use Rattle.core_lowering_expressions.proofs.Made.{on-object, on-object-kind}
+use Rattle.core_lowering_expressions.proofs.Made.{on-container, on-container-kind, on-access, on-access-kind}
+use Rattle.core_lowering_expressions.proofs.Made.{touching-made}
+use Rattle.core_lowering_expressions.proofs.TouchParts.{unstored-untouched}
 use Rattle.core_lowering_expressions.proofs.Made.{new-made, body-made, lengths-made, items-made}
 use Rattle.core_lowering_expressions.proofs.+lower_expressions.Goals as goal
 
@@ -387,12 +391,68 @@ invocations::lower_call_on-returns-in-Some-clause-kind t c =
 
 pub invocations::lower_call_on-returns-clause-code : goal.invocations::lower_call_on-returns-clause-code
 invocations::lower_call_on-returns-clause-code t c =
+    let context = c.args.context.now in
+    let e = expr_of c.args.e.now in
     let es = pack_exprs (map expr_of c.args.arguments.now) in
     on_ok_weaker c.lower_call-2.result
-    (on-object c.args.context.now (expr_of c.args.e.now) c.args.x.now es c.in_ok-kind.kind (code_of c.args.draft.now)
+    (on-object context e c.args.x.now es c.in_ok-kind.kind (code_of c.args.draft.now)
     (code_of c.lower_expression.new.draft) (code_of c.lower_call-2.new.draft) c.in_default.ensures
+    (unstored-untouched context e c.args.x.now (count_exprs es) (sym c.is_access.ensures ∙ c.if-is_access.false))
     c.in_ok-kind.ensures.code c.in_ok-kind.ensures.kind)
     c.lower_call-2.ensures.code
+
+pub invocations::lower_call_on-lower_call_on_access-requires :
+    goal.invocations::lower_call_on-lower_call_on_access-requires
+invocations::lower_call_on-lower_call_on_access-requires t c =
+    (search rules, (sym c.is_access.ensures ∙ c.if-is_access.true, c.in_default.ensures))
+
+pub invocations::lower_touching_call-returns : goal.invocations::lower_touching_call-returns
+invocations::lower_touching_call-returns t c =
+    on_ok_weaker c.end_touching_call.result
+    (touching-made c.args.context.now c.args.place c.args.touched c.args.arguments.now c.in_ok-count.count
+    (code_of c.args.draft.now) (code_of c.fetch_container.new.draft) (code_of c.lower_values.new.draft)
+    (code_of c.end_touching_call.new.draft) c.in_ok-count.ensures c.in_ok-fetch_container.ensures
+    c.in_ok-lower_values.ensures)
+    c.end_touching_call.ensures
+
+pub invocations::lower_call_on_access-returns-in-Some-clause-code :
+    goal.invocations::lower_call_on_access-returns-in-Some-clause-code
+invocations::lower_call_on_access-returns-in-Some-clause-code t c =
+    on-container c.args.context.now (expr_of c.args.e.now) c.args.x.now c.args.arguments.now c.in_ok-storage.storage
+    c.in_ok-count.count c.requires.access c.in_ok-count.ensures c.in_ok-storage.ensures.storage c.in-Some.touched
+    (code_of c.args.draft.now) (code_of c.lower_storage.new.draft) (code_of c.lower_touching_call.new.draft)
+    c.in_ok-storage.ensures.code c.in-Some.ensures c.in_ok-lower_touching_call.ensures
+
+pub invocations::lower_call_on_access-returns-in-Some-clause-kind :
+    goal.invocations::lower_call_on_access-returns-in-Some-clause-kind
+invocations::lower_call_on_access-returns-in-Some-clause-kind t c =
+    c.call_kind.ensures
+    ∙ on-container-kind c.args.context.now (expr_of c.args.e.now) c.args.x.now c.args.arguments.now
+    c.in_ok-storage.storage c.in_ok-count.count c.requires.access c.in_ok-count.ensures
+    c.in_ok-storage.ensures.storage c.kind.result c.requires.no_class c.kind.ensures
+
+pub invocations::lower_call_on_access-returns-clause-code : goal.invocations::lower_call_on_access-returns-clause-code
+invocations::lower_call_on_access-returns-clause-code t c =
+    on_ok_weaker c.lower_call.result
+    (on-access c.args.context.now (expr_of c.args.e.now) c.args.x.now c.args.arguments.now c.in_ok-storage.storage
+    c.in_ok-count.count c.requires.access c.in_ok-count.ensures c.in_ok-storage.ensures.storage c.in_ok-kind.kind
+    (code_of c.args.draft.now) (code_of c.lower_storage.new.draft) (code_of c.read.new.draft)
+    (code_of c.lower_call.new.draft) c.requires.no_class c.in_ok-storage.ensures.code c.in_default.ensures
+    c.in_ok-kind.ensures.code c.in_ok-kind.ensures.kind)
+    c.lower_call.ensures.code
+
+pub invocations::lower_call_on_access-returns-clause-kind : goal.invocations::lower_call_on_access-returns-clause-kind
+invocations::lower_call_on_access-returns-clause-kind t c =
+    let context = c.args.context.now in
+    let e = expr_of c.args.e.now in
+    let es = pack_exprs (map expr_of c.args.arguments.now) in
+    IfOk-weaker c.lower_call.result
+    (λ k. value_kind k ≡ target_kind context (target.Value c.in_ok-kind.kind) c.args.x.now es)
+    (λ k. value_kind k ≡ kind context (CallOn e c.args.x.now es))
+    (λ k is. is ∙ on-access-kind context e c.args.x.now c.args.arguments.now c.in_ok-storage.storage
+    c.in_ok-count.count c.requires.access c.in_ok-count.ensures c.in_ok-storage.ensures.storage c.in_ok-kind.kind
+    c.requires.no_class c.in_ok-kind.ensures.kind)
+    c.lower_call.ensures.kind
 
 pub invocations::lower_call_on-returns-clause-kind : goal.invocations::lower_call_on-returns-clause-kind
 invocations::lower_call_on-returns-clause-kind t c =

@@ -77,8 +77,15 @@ abbrev pub decreases-expressions::lower_conditional : goal.decreases-expressions
 decreases-expressions::lower_conditional l =
     8 * (max (size-Expression l.c.now) (max (size-Expression l.a.now) (size-Expression l.b.now))) + 3
 
+abbrev pub decreases-invocations::lower_touching_call : goal.decreases-invocations::lower_touching_call
+decreases-invocations::lower_touching_call l = 8 * goal.size-invocations::lower_touching_call l + 4
+
+abbrev pub decreases-invocations::lower_call_on_access : goal.decreases-invocations::lower_call_on_access
+decreases-invocations::lower_call_on_access l =
+    8 * (max (size-Expression l.e.now) (most size-Expression l.arguments.now)) + 6
+
 abbrev pub decreases-invocations::lower_call_on : goal.decreases-invocations::lower_call_on
-decreases-invocations::lower_call_on l = 8 * (max (size-Expression l.e.now) (most size-Expression l.arguments.now)) + 6
+decreases-invocations::lower_call_on l = 8 * (max (size-Expression l.e.now) (most size-Expression l.arguments.now)) + 7
 
 abbrev pub decreases-invocations::lower_body : goal.decreases-invocations::lower_body
 decreases-invocations::lower_body l = 8 * goal.size-invocations::lower_body l + 4

@@ -1,5 +1,7 @@
 //! Programs of small units.
 ghost use Rattle.std.specs.Prelude.{◌≡◌, ℕ, Bool, List, [], ◌∷◌, Some, None, true, false, codes, map, IsTrue};
+ghost use Rattle.container_cells.specs.declared.cell.Containers.{Containers};
+ghost use Rattle.container_cells.specs.declared.cell.Containers.TheVariants.{Opaque};
 ghost use Rattle.racer_base.specs.declared.ids.MethodId.{MethodId};
 ghost use Rattle.java_tree.specs.declared.methods.ResultTree.TheVariants.{Constructor, Void};
 ghost use Rattle.java_tree.specs.declared.unit.Unit.{Unit};
@@ -37,7 +39,7 @@ pub fn statuses_of_programs()
         ≡ None ∷ Some Overload ∷ None ∷ Some Outside ∷ Some Overload ∷ [] }
     ensures parameters { statuses_of (checked_class (empty_method [] Void (codes "f") 64
         ∷ empty_method [] Void (codes "g") 65 ∷ [])) ≡ None ∷ None ∷ Some Parameters ∷ [] }
-    ensures recursive { map (λ (m : Method). m.status) (program_of [] (checked_class (void_method (codes "f")
+    ensures recursive { map (λ (m : Method). m.status) (program_of Opaque [] (checked_class (void_method (codes "f")
         ∷ outside (codes "g") 9 head.Void false ∷ [])) (flag_of (true ∷ false ∷ true ∷ []))).methods
         ≡ Some Recursive ∷ None ∷ Some Outside ∷ [] }
 {}
@@ -103,36 +105,46 @@ pub fn conditions_of_units()
     } ∷ []) ≡ false }
 {}
 
-/// What every program of units keeps, whichever methods are taken for recursive. Whatever the units, the code of all
-/// methods is kinded, pops no empty stack and calls rightly, that of an analysed method ends by returns and throws
-/// alone, analysed methods differ, and have few parameters. Numbers are in range where the places of the units are in
-/// the files, names are right where those of the units are identifiers, and classes and fields differ where the units
-/// are not refused.
+/// What every program of units keeps, with cells of containers and without, whichever methods are taken for recursive.
+/// Whatever the units, the code of all methods is kinded, pops no empty stack and calls rightly, that of an analysed
+/// method ends by returns and throws alone, analysed methods differ, and have few parameters. Numbers are in range
+/// where the places of the units are in the files, names are right where those of the units are identifiers, and classes
+/// and fields differ where the units are not refused; fields with what containers hold among them, where their names are
+/// identifiers.
 pub fn facts_of_programs()
-    ensures kinded { (files : List (List ℕ)) (units : List Unit) (is_recursive : MethodId → Bool) →
-        IsTrue (are_kinded (program_of files units is_recursive)) }
-    ensures stacks { (files : List (List ℕ)) (units : List Unit) (is_recursive : MethodId → Bool) →
-        IsTrue (are_stacks_enough (program_of files units is_recursive)) }
-    ensures calls { (files : List (List ℕ)) (units : List Unit) (is_recursive : MethodId → Bool) →
-        IsTrue (are_calls_right (program_of files units is_recursive)) }
-    ensures sites { (files : List (List ℕ)) (units : List Unit) (is_recursive : MethodId → Bool) →
-        IsTrue (are_sites_in_order (program_of files units is_recursive)) }
-    ensures entries { (files : List (List ℕ)) (units : List Unit) (is_recursive : MethodId → Bool) →
-        IsTrue (are_entries_analysed (program_of files units is_recursive)) }
-    ensures ends { (files : List (List ℕ)) (units : List Unit) (is_recursive : MethodId → Bool) →
-        IsTrue (do_end_by_return (program_of files units is_recursive)) }
-    ensures methods { (files : List (List ℕ)) (units : List Unit) (is_recursive : MethodId → Bool) →
-        IsTrue (do_methods_differ (program_of files units is_recursive)) }
-    ensures parameters { (files : List (List ℕ)) (units : List Unit) (is_recursive : MethodId → Bool) →
-        IsTrue (are_parameters_few (program_of files units is_recursive)) }
-    ensures numbers { (files : List (List ℕ)) (units : List Unit) (is_recursive : MethodId → Bool) →
-        IsTrue (are_in_files files units) → IsTrue (are_numbers_in_range (program_of files units is_recursive)) }
-    ensures names_right { (files : List (List ℕ)) (units : List Unit) (is_recursive : MethodId → Bool) →
-        IsTrue (are_named units) → IsTrue (are_names_right (program_of files units is_recursive)) }
-    ensures classes { (files : List (List ℕ)) (units : List Unit) (is_recursive : MethodId → Bool) →
-        refusal units ≡ None → IsTrue (do_classes_differ (program_of files units is_recursive)) }
+    ensures kinded { (containers : Containers) (files : List (List ℕ)) (units : List Unit)
+        (is_recursive : MethodId → Bool) → IsTrue (are_kinded (program_of containers files units is_recursive)) }
+    ensures stacks { (containers : Containers) (files : List (List ℕ)) (units : List Unit)
+        (is_recursive : MethodId → Bool) → IsTrue (are_stacks_enough (program_of containers files units is_recursive)) }
+    ensures calls { (containers : Containers) (files : List (List ℕ)) (units : List Unit)
+        (is_recursive : MethodId → Bool) → IsTrue (are_calls_right (program_of containers files units is_recursive)) }
+    ensures sites { (containers : Containers) (files : List (List ℕ)) (units : List Unit)
+        (is_recursive : MethodId → Bool) →
+        IsTrue (are_sites_in_order (program_of containers files units is_recursive)) }
+    ensures entries { (containers : Containers) (files : List (List ℕ)) (units : List Unit)
+        (is_recursive : MethodId → Bool) →
+        IsTrue (are_entries_analysed (program_of containers files units is_recursive)) }
+    ensures ends { (containers : Containers) (files : List (List ℕ)) (units : List Unit)
+        (is_recursive : MethodId → Bool) → IsTrue (do_end_by_return (program_of containers files units is_recursive)) }
+    ensures methods { (containers : Containers) (files : List (List ℕ)) (units : List Unit)
+        (is_recursive : MethodId → Bool) → IsTrue (do_methods_differ (program_of containers files units is_recursive)) }
+    ensures parameters { (containers : Containers) (files : List (List ℕ)) (units : List Unit)
+        (is_recursive : MethodId → Bool) →
+        IsTrue (are_parameters_few (program_of containers files units is_recursive)) }
+    ensures numbers { (containers : Containers) (files : List (List ℕ)) (units : List Unit)
+        (is_recursive : MethodId → Bool) → IsTrue (are_in_files files units) →
+        IsTrue (are_numbers_in_range (program_of containers files units is_recursive)) }
+    ensures names_right { (containers : Containers) (files : List (List ℕ)) (units : List Unit)
+        (is_recursive : MethodId → Bool) →
+        IsTrue (are_named units) → IsTrue (are_names_right (program_of containers files units is_recursive)) }
+    ensures classes { (containers : Containers) (files : List (List ℕ)) (units : List Unit)
+        (is_recursive : MethodId → Bool) →
+        refusal units ≡ None → IsTrue (do_classes_differ (program_of containers files units is_recursive)) }
     ensures fields { (files : List (List ℕ)) (units : List Unit) (is_recursive : MethodId → Bool) →
-        refusal units ≡ None → IsTrue (do_fields_differ (program_of files units is_recursive)) }
+        refusal units ≡ None → IsTrue (do_fields_differ (program_of Opaque files units is_recursive)) }
+    ensures named_fields { (containers : Containers) (files : List (List ℕ)) (units : List Unit)
+        (is_recursive : MethodId → Bool) → refusal units ≡ None → IsTrue (are_named units) →
+        IsTrue (do_fields_differ (program_of containers files units is_recursive)) }
 {}
 
 /// The fields of units are what `by_field` makes of the declarations, as each list beside theirs is to be.
@@ -143,8 +155,10 @@ pub fn fields_by_field()
 /// Methods call the same methods, whichever are taken for recursive. So there are ranks where those are that are
 /// recursive in the draft, and no others.
 pub fn ranks_of_programs()
-    ensures same_calls { (files : List (List ℕ)) (units : List Unit) (is_recursive : MethodId → Bool) →
-        all_rows (program_of files units is_recursive) ≡ all_rows (draft_of files units) }
-    ensures ranks { (files : List (List ℕ)) (units : List Unit) (flags : List Bool) →
-        TellRecursion (draft_of files units) flags → IsTrue (has_ranks (program_of files units (flag_of flags))) }
+    ensures same_calls { (containers : Containers) (files : List (List ℕ)) (units : List Unit)
+        (is_recursive : MethodId → Bool) →
+        all_rows (program_of containers files units is_recursive) ≡ all_rows (draft_of containers files units) }
+    ensures ranks { (containers : Containers) (files : List (List ℕ)) (units : List Unit) (flags : List Bool) →
+        TellRecursion (draft_of containers files units) flags →
+        IsTrue (has_ranks (program_of containers files units (flag_of flags))) }
 {}

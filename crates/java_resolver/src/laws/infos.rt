@@ -1,5 +1,5 @@
 //! What is known of fields and methods.
-ghost use Rattle.std.specs.Prelude.{◌≡◌, [], ◌∷◌, true, false, codes, map};
+ghost use Rattle.std.specs.Prelude.{◌≡◌, [], ◌∷◌, true, false, codes, map, None};
 ghost use Rattle.racer_base.specs.declared.ids.Kind.TheVariants as kind;
 ghost use Rattle.java_tree.specs.declared.methods.ModifierTree.TheVariants.{Annotated};
 ghost use Rattle.java_tree.specs.declared.methods.ResultTree.TheVariants.{Constructor, Void, Of};
@@ -26,6 +26,7 @@ pub fn fields_of_declarations()
           is_final = false;
           is_volatile = true;
           is_lock = false;
+          family = None;
         } }
     ensures final_word { (field_info [] (class 1) (ints (codes "final" ∷ []) [])
         (absent (codes "x") 5)).is_final ≡ true }

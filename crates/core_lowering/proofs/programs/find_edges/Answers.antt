@@ -11,6 +11,6 @@ count_edges-requires c =
 
 pub returns : goal.returns
 returns c =
-    sym (edges-same (draft_of [] c.args.units.now).methods)
+    sym (edges-same (draft_of c.args.containers [] c.args.units.now).methods)
     ∙ ap (λ (rows : List (List MethodId)). edges rows) (sym c.requires.rows)
     ∙ sym c.in_ok-edges.ensures

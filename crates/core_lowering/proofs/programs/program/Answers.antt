@@ -21,79 +21,91 @@ pub of-requires-clause-numbers_in_range : goal.of-requires-clause-numbers_in_ran
 of-requires-clause-numbers_in_range c =
     let P : Core → Type 0 = λ core. are_numbers_in_range core ≡ true in
     subst P (sym c.in_ok-parts.ensures)
-    (numbers-in_range (names_of c.args.files.now) c.args.units.now (flag_of c.args.recursive.now) c.requires.placed)
+    (numbers-in_range c.args.declared.containers (names_of c.args.files.now) c.args.units.now
+    (flag_of c.args.recursive.now) c.requires.placed)
 
 pub of-requires-clause-sites_in_order : goal.of-requires-clause-sites_in_order
 of-requires-clause-sites_in_order c =
     let P : Core → Type 0 = λ core. are_sites_in_order core ≡ true in
     subst P (sym c.in_ok-parts.ensures)
-    (sites-in_order (names_of c.args.files.now) c.args.units.now (flag_of c.args.recursive.now))
+    (sites-in_order c.args.declared.containers (names_of c.args.files.now) c.args.units.now
+    (flag_of c.args.recursive.now))
 
 pub of-requires-clause-entries_analysed : goal.of-requires-clause-entries_analysed
 of-requires-clause-entries_analysed c =
     let P : Core → Type 0 = λ core. are_entries_analysed core ≡ true in
     subst P (sym c.in_ok-parts.ensures)
-    (entries-analysed (names_of c.args.files.now) c.args.units.now (flag_of c.args.recursive.now))
+    (entries-analysed c.args.declared.containers (names_of c.args.files.now) c.args.units.now
+    (flag_of c.args.recursive.now))
 
 pub of-requires-clause-stacks_enough : goal.of-requires-clause-stacks_enough
 of-requires-clause-stacks_enough c =
     let P : Core → Type 0 = λ core. are_stacks_enough core ≡ true in
     subst P (sym c.in_ok-parts.ensures)
-    (stacks-enough (names_of c.args.files.now) c.args.units.now (flag_of c.args.recursive.now))
+    (stacks-enough c.args.declared.containers (names_of c.args.files.now) c.args.units.now
+    (flag_of c.args.recursive.now))
 
 pub of-requires-clause-ends_by_return : goal.of-requires-clause-ends_by_return
 of-requires-clause-ends_by_return c =
     let P : Core → Type 0 = λ core. do_end_by_return core ≡ true in
     subst P (sym c.in_ok-parts.ensures)
-    (ends-by_return (names_of c.args.files.now) c.args.units.now (flag_of c.args.recursive.now))
+    (ends-by_return c.args.declared.containers (names_of c.args.files.now) c.args.units.now
+    (flag_of c.args.recursive.now))
 
 pub of-requires-clause-calls_right : goal.of-requires-clause-calls_right
 of-requires-clause-calls_right c =
     let P : Core → Type 0 = λ core. are_calls_right core ≡ true in
     subst P (sym c.in_ok-parts.ensures)
-    (calls-right (names_of c.args.files.now) c.args.units.now (flag_of c.args.recursive.now))
+    (calls-right c.args.declared.containers (names_of c.args.files.now) c.args.units.now (flag_of c.args.recursive.now))
 
 pub of-requires-clause-kinded : goal.of-requires-clause-kinded
 of-requires-clause-kinded c =
     let P : Core → Type 0 = λ core. are_kinded core ≡ true in
     subst P (sym c.in_ok-parts.ensures)
-    (program-kinded (names_of c.args.files.now) c.args.units.now (flag_of c.args.recursive.now))
+    (program-kinded c.args.declared.containers (names_of c.args.files.now) c.args.units.now
+    (flag_of c.args.recursive.now))
 
 pub of-requires-clause-names_right : goal.of-requires-clause-names_right
 of-requires-clause-names_right c =
     let P : Core → Type 0 = λ core. are_names_right core ≡ true in
     subst P (sym c.in_ok-parts.ensures)
-    (names-right (names_of c.args.files.now) c.args.units.now (flag_of c.args.recursive.now) c.requires.named)
+    (names-right c.args.declared.containers (names_of c.args.files.now) c.args.units.now
+    (flag_of c.args.recursive.now) c.requires.named)
 
 pub of-requires-clause-classes_differ : goal.of-requires-clause-classes_differ
 of-requires-clause-classes_differ c =
     let P : Core → Type 0 = λ core. do_classes_differ core ≡ true in
     subst P (sym c.in_ok-parts.ensures)
-    (classes-differ c.args.units.now c.requires.accepted (names_of c.args.files.now) (flag_of c.args.recursive.now))
+    (classes-differ c.args.units.now c.requires.accepted c.args.declared.containers (names_of c.args.files.now)
+    (flag_of c.args.recursive.now))
 
 pub of-requires-clause-fields_differ : goal.of-requires-clause-fields_differ
 of-requires-clause-fields_differ c =
     let P : Core → Type 0 = λ core. do_fields_differ core ≡ true in
     subst P (sym c.in_ok-parts.ensures)
-    (fields-differ c.args.units.now c.requires.accepted (names_of c.args.files.now) (flag_of c.args.recursive.now))
+    (fields-differ c.args.units.now c.requires.accepted c.args.declared.containers (names_of c.args.files.now)
+    (flag_of c.args.recursive.now) c.requires.named)
 
 pub of-requires-clause-methods_differ : goal.of-requires-clause-methods_differ
 of-requires-clause-methods_differ c =
     let P : Core → Type 0 = λ core. do_methods_differ core ≡ true in
     subst P (sym c.in_ok-parts.ensures)
-    (methods-differ (names_of c.args.files.now) c.args.units.now (flag_of c.args.recursive.now))
+    (methods-differ c.args.declared.containers (names_of c.args.files.now) c.args.units.now
+    (flag_of c.args.recursive.now))
 
 pub of-requires-clause-parameters_few : goal.of-requires-clause-parameters_few
 of-requires-clause-parameters_few c =
     let P : Core → Type 0 = λ core. are_parameters_few core ≡ true in
     subst P (sym c.in_ok-parts.ensures)
-    (parameters-few (names_of c.args.files.now) c.args.units.now (flag_of c.args.recursive.now))
+    (parameters-few c.args.declared.containers (names_of c.args.files.now) c.args.units.now
+    (flag_of c.args.recursive.now))
 
 pub of-requires-clause-ranks_there : goal.of-requires-clause-ranks_there
 of-requires-clause-ranks_there c =
     let P : Core → Type 0 = λ core. has_ranks core ≡ true in
     subst P (sym c.in_ok-parts.ensures)
-    (ranks-there (names_of c.args.files.now) c.args.units.now c.args.recursive.now c.requires.recursive)
+    (ranks-there c.args.declared.containers (names_of c.args.files.now) c.args.units.now
+    c.args.recursive.now c.requires.recursive)
 
 pub returns : goal.returns
 returns c = c.of.ensures ∙ c.in_ok-parts.ensures

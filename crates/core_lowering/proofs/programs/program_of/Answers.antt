@@ -7,7 +7,7 @@ use Rattle.core_lowering.proofs.programs.program_of.Goals as goal
 
 pub program-requires-clause-recursive : goal.program-requires-clause-recursive
 program-requires-clause-recursive c =
-    subst (λ (flags : List Bool). TellCycles (all_rows (draft_of [] c.args.units.now)) flags)
+    subst (λ (flags : List Bool). TellCycles (all_rows (draft_of c.args.declared.containers [] c.args.units.now)) flags)
     (sym c.as_slice.ensures.value)
     (subst (λ (rows : List (List MethodId)). TellCycles rows c.in_ok-flags.flags.items) c.requires.rows
     c.in_ok-flags.ensures.exact)
@@ -22,6 +22,7 @@ returns c =
       program =
           c.in_ok-made.ensures
           ∙ ap
-          (λ flags. program_of (map (λ file. string_bytes file) c.args.files.now) c.args.units.now (flag_of flags))
+          (λ flags. program_of c.args.declared.containers (map (λ file. string_bytes file) c.args.files.now)
+          c.args.units.now (flag_of flags))
           c.as_slice.ensures.value;
     }

@@ -9,10 +9,12 @@ use Rattle.core_lowering.proofs.programs.program_parts.Goals as goal
 
 pub returns : goal.returns
 returns c =
-    let table = c.args.table.now in
+    let declared = c.args.declared in
+    let table = declared.table.now in
     subst (λ (core : Core). IfOk c.parts.result (λ parts. core_of parts ≡ core))
-    (program-made c.args.units.now (classes table) (fields table) (methods table) (map seen c.args.surveyed.now)
-    c.requires.known.classes c.requires.known.fields c.requires.known.methods c.requires.known.sources
+    (program-made declared.containers c.args.units.now (classes table) (fields table) declared.cells.now
+    (methods table) (map seen c.args.surveyed.now) c.requires.known.classes c.requires.known.fields
+    c.requires.known.cells_are c.requires.known.methods c.requires.known.sources
     (map (λ file. string_bytes file) c.args.files.now) (flag_of c.args.recursive.now) c.as_slice.result.now
     (c.as_slice.ensures.value ∙ c.in_ok-statuses.ensures
     ∙ ap (λ reasons. with_recursive (flag_of c.args.recursive.now) 0 reasons) c.requires.known.reasons))

@@ -160,9 +160,9 @@ loops::lower_for_each-returns-clause-code t c =
     let x = c.args.x.now in
     on_ok_weaker c.end_block.result
     (each-made a c.declare.new.self c.lower_elements.new.context (ty_of c.args.t.now) x (expr_of c.args.e.now)
-    (stmt_of c.args.s.now) c.in_ok-v.v (code_of c.args.draft.now) (code_of c.lower_run.new.draft)
+    (stmt_of c.args.s.now) c.in_ok-v.v (code_of c.args.draft.now) (code_of c.lower_gone_over.new.draft)
     (code_of c.lower_elements.new.draft) (code_of c.end_block.new.draft) c.in_scope-before.result c.len-first.result
-    c.in_scope-before.ensures c.len-first.ensures c.in_ok-lower_run.ensures c.in_ok-v.ensures.variable
+    c.in_scope-before.ensures c.len-first.ensures c.in_ok-lower_gone_over.ensures c.in_ok-v.ensures.variable
     (c.in_ok-v.ensures.context ∙ ap (λ k. declared a k x) c.variable_kind.ensures) c.in_ok-lower_elements.ensures.code
     c.in_ok-lower_elements.ensures.context)
     c.end_block.ensures.code

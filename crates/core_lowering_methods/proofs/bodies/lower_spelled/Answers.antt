@@ -15,13 +15,13 @@ use Rattle.core_lowering_methods.proofs.bodies.lower_spelled.Goals as goal
 pub returns-clause-code : goal.returns-clause-code
 returns-clause-code c =
     let table = c.args.table.now in
-    let folder = folder_of table c.args.statuses.now in
+    let folder = folder_of table c.args.cells.now c.args.statuses.now in
     let source = source_of c.args.source.now in
     let m = c.args.m.now in
     let parts = c.in_ok-parts.parts in
     spelled-made folder source m (is_past c.args.extent) c.args.source.now.info.now.place parts.fields parts.owner
     parts.block parts.last (tree_of c.in_ok-code.code)
-    (known-past (folder_of table []) folder source m (is_past c.args.extent) refl c.requires) refl
+    (known-past (folder_of table c.args.cells.now []) folder source m (is_past c.args.extent) refl c.requires) refl
     (c.in_ok-parts.ensures.fields
     ∙ ap (λ (x : Context). object_begun (outside_methods x) source.members m) c.in_ok-context.ensures)
     (c.in_ok-parts.ensures.owner ∙ ap (λ (x : Context). owner_pushed x m) c.in_ok-context.ensures)

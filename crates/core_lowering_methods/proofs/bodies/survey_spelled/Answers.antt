@@ -15,7 +15,7 @@ use Rattle.core_lowering_methods.proofs.bodies.survey_spelled.Goals as goal
 
 pub returns-clause-extent : goal.returns-clause-extent
 returns-clause-extent c =
-    let folder = folder_of c.args.table.now [] in
+    let folder = folder_of c.args.table.now c.args.cells.now [] in
     let source = source_of c.args.source.now in
     let m = c.args.m.now in
     measured-past folder source m (is_past c.in_ok-measured.measured.extent) c.in_ok-parts.parts.block
@@ -25,7 +25,7 @@ returns-clause-extent c =
 
 pub returns-clause-code : goal.returns-clause-code
 returns-clause-code c =
-    let folder = folder_of c.args.table.now [] in
+    let folder = folder_of c.args.table.now c.args.cells.now [] in
     let source = source_of c.args.source.now in
     let m = c.args.m.now in
     let parts = c.in_ok-parts.parts in

@@ -34,14 +34,14 @@ method-requires c =
     zip_turn surveyed statuses c.loop-one.yielded c.into_iter-one-iterator.result c.loop-one.one-iterator
     c.next.new.self c.next.result (search rules) (search rules) c.loop-one.yielded_by (one, c.in-Some.status)
     c.in-Some.is c.next.ensures.steps in
-    subst (IsRight c.args.table.now) (sym (at.2 one.now))
-    (All-get_or (IsRight c.args.table.now) surveyed i one.now at.0 c.requires)
+    subst (IsRight c.args.table.now c.args.cells.now) (sym (at.2 one.now))
+    (All-get_or (IsRight c.args.table.now c.args.cells.now) surveyed i one.now at.0 c.requires)
 
 pub loop-one-preserved : goal.loop-one-preserved
 loop-one-preserved c =
     let sources = c.args.surveyed.now in
     let statuses = c.args.statuses.now in
-    let folder = folder_of c.args.table.now statuses in
+    let folder = folder_of c.args.table.now c.args.cells.now statuses in
     let i = length c.loop-one.yielded in
     let source = c.in-Some.one in
     let status = c.in-Some.status in
@@ -67,7 +67,7 @@ pub returns : goal.returns
 returns c =
     let sources = c.args.surveyed.now in
     let statuses = c.args.statuses.now in
-    let folder = folder_of c.args.table.now statuses in
+    let folder = folder_of c.args.table.now c.args.cells.now statuses in
     let end : length c.loop-one.yielded ≡ min (length sources) (length statuses) =
     zip_end sources statuses c.loop-one.yielded c.into_iter-one-iterator.result c.loop-one.one-iterator
     c.next.new.self

@@ -7,7 +7,7 @@ use Rattle.core_lowering_surveys.proofs.program_methods.methods.Given as goal
 
 abbrev pub invariant-loop-one : goal.invariant-loop-one
 invariant-loop-one l =
-    let folder = folder_of l.table l.statuses in
+    let folder = folder_of l.table l.cells l.statuses in
     let so_far = length l.yielded in
     map method_of l.methods ++ method_cores folder (map seen (drop so_far l.surveyed)) (drop so_far l.statuses) ≡
     method_cores folder (map seen l.surveyed) l.statuses

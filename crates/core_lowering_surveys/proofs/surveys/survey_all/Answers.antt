@@ -16,8 +16,8 @@ use Rattle.core_lowering_surveys.proofs.surveys.survey_all.Goals as goal
 
 pub loop-source-preserved : goal.loop-source-preserved
 loop-source-preserved c =
-    let row = row_in (folder_of c.args.table.now []) in
-    let reason = own_reason (declared_by c.args.table.now) in
+    let row = row_in (folder_of c.args.table.now c.args.cells.now []) in
+    let reason = own_reason (declared_by c.args.table.now c.args.cells.now) in
     let all = c.args.sources.now in
     let i = c.loop-source.source-index in
     let x : Source = c.source-item.result in
@@ -44,21 +44,21 @@ loop-source-preserved c =
           (ap (λ (ms : List Surveyed). map seen ms) pushed ∙ map-append seen methods (one ∷ []))
           c.loop-source.invariant.methods;
       extents =
-          subst (All (IsRight c.args.table.now)) (sym pushed)
-          (All-append (IsRight c.args.table.now) methods (one ∷ []) c.loop-source.invariant.extents
-          (All-cons (IsRight c.args.table.now) one [] c.in_ok-found.ensures.extent
-          (All-nil (IsRight c.args.table.now))));
+          subst (All (IsRight c.args.table.now c.args.cells.now)) (sym pushed)
+          (All-append (IsRight c.args.table.now c.args.cells.now) methods (one ∷ []) c.loop-source.invariant.extents
+          (All-cons (IsRight c.args.table.now c.args.cells.now) one [] c.in_ok-found.ensures.extent
+          (All-nil (IsRight c.args.table.now c.args.cells.now))));
     }
 
 pub returns-clause-rows : goal.returns-clause-rows
 returns-clause-rows c =
-    let row = row_in (folder_of c.args.table.now []) in
+    let row = row_in (folder_of c.args.table.now c.args.cells.now []) in
     ended (λ (ss : List Source). map row (map source_of ss)) c.args.sources.now c.loop-source.source-index
     c.loop-source.rows.items _ refl c.loop-source-test.false c.loop-source.invariant.rows
 
 pub returns-clause-reasons : goal.returns-clause-reasons
 returns-clause-reasons c =
-    let reason = own_reason (declared_by c.args.table.now) in
+    let reason = own_reason (declared_by c.args.table.now c.args.cells.now) in
     ended (λ (ss : List Source). map reason (map source_of ss)) c.args.sources.now c.loop-source.source-index
     c.loop-source.reasons.items _ refl c.loop-source-test.false c.loop-source.invariant.reasons
 

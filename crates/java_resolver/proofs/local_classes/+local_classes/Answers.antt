@@ -1,4 +1,4 @@
-use Rattle.std.proofs.Common.{List, ◌++◌, map, refl, ap, ◌∙◌, arith, rules, append_assoc}
+use Rattle.std.proofs.Common.{List, ◌++◌, map, refl, ap, ◌∙◌, arith, rules}
 use Rattle.java_tree.specs.declared.statements.Statement.{Statement}
 use Rattle.java_tree.specs.declared.statements.CatchTree.{CatchTree}
 use Rattle.java_tree.specs.declared.statements.GroupTree.{GroupTree}

@@ -1,4 +1,4 @@
-use Rattle.std.proofs.Common.{true, sym, ap}
+use Rattle.std.proofs.Common.{sym, ap}
 use Rattle.std.specs.Prelude.{Bool, bytes_eq, ◌&&◌}
 use Rattle.std.proofs.lemmas.Result.{on_ok_weaker}
 use Rattle.java_resolver_parts.specs.Numbers.{Key, key_eq}

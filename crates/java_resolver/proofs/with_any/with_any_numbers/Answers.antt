@@ -1,4 +1,3 @@
-use Rattle.std.proofs.Common.{take}
 use Rattle.java_resolver.specs.declared.infos.MethodInfo.{MethodInfo}
 use Rattle.java_resolver.specs.Indexes.{method_with_any_at}
 use Rattle.java_resolver.proofs.FirstOnes.{finds_next}

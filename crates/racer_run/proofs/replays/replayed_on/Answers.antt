@@ -19,7 +19,9 @@ returns-in_ok-replayed-in-Accepted-clause-said g c =
     let program = core c.in-Accepted.program in
     let read = c.in_ok-bytes-in-Accepted.bytes.items in
     let source =
-    subst (λ (found : FoundProgram). IfSome tells (λ (told : Told). IsSource told.files (source_of found)))
+    subst
+    (λ (found : FoundProgram). IfSome tells (λ (told : Told).
+    IsSource wanted.containers told.files (source_of found)))
     c.in-Accepted.is c.in_ok-program.ensures.found in
     let bytes =
     subst

@@ -7,5 +7,6 @@ pub returns-clause-same : goal.returns-clause-same
 returns-clause-same c tokens us vs h k = two_zips IsUnit IsUnit SameUnit c.one_unit.ensures tokens us vs h k
 
 pub returns-clause-lowered : goal.returns-clause-lowered
-returns-clause-lowered c tokens us vs h k files p q =
-    c.one_program.ensures.lowered us vs (two_zips IsUnit IsUnit SameUnit c.one_unit.ensures tokens us vs h k) files p q
+returns-clause-lowered c tokens us vs h k containers files p q =
+    c.one_program.ensures.lowered us vs (two_zips IsUnit IsUnit SameUnit c.one_unit.ensures tokens us vs h k)
+    containers files p q

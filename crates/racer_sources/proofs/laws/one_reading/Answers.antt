@@ -7,5 +7,6 @@ returns c = λ files us vs first second.
     let same = c.one_program_of_tokens.ensures.same tokens.tokens us vs tokens.first tokens.second in
     record {
       refusals = c.one_program.ensures.refused us vs same;
-      programs = λ names is_recursive. c.one_program.ensures.program us vs same names is_recursive;
+      programs = λ containers names is_recursive.
+          c.one_program.ensures.program us vs same containers names is_recursive;
     }

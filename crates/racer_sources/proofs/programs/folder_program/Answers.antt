@@ -9,7 +9,7 @@ use Rattle.racer_sources.proofs.programs.folder_program.Goals as goal
 pub returns-in_ok-lowered-in-Accepted-clause-found : goal.returns-in_ok-lowered-in-Accepted-clause-found
 returns-in_ok-lowered-in-Accepted-clause-found g c =
     let told = g.F.Folder.told c.args.folder.now in
-    lowered_there told c.in-Accepted.found _
+    lowered_there c.args.containers told c.in-Accepted.found _
     (subst (λ (f : FolderSources). IfSome told (λ (t : Told). IsFound t.files f)) c.in-Accepted.is
     c.in_ok-found.ensures.found)
     c.in_ok-lowered-in-Accepted.ensures

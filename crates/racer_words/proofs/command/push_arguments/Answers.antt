@@ -23,9 +23,11 @@ returns c =
     let json = local (flag_rule (codes "json")) in
     let summaries = local (flag_rule (codes "summaries")) in
     let history = local (flag_rule (codes "history")) in
+    let containers = local (flag_rule (codes "containers")) in
     let with_options = λ (rules : List (Rule × Bool)). rules ++ workers ∷ replay ∷ made ∷ [] in
-    let with_flags = λ (rules : List (Rule × Bool)). rules ++ json ∷ summaries ∷ history ∷ [] in
+    let with_flags = λ (rules : List (Rule × Bool)). rules ++ json ∷ summaries ∷ history ∷ containers ∷ [] in
     on_ok_weaker c.push_named-2.result
     (λ is. is ∙ ap with_flags (c.in_ok-push_named.ensures ∙ ap with_options folder)
-    ∙ one_by_one (rules_of old ++ local folder_rule ∷ []) workers replay made json summaries history)
+    ∙ one_by_one (rules_of old ++ local folder_rule ∷ []) workers replay made json summaries
+    history containers)
     c.push_named-2.ensures

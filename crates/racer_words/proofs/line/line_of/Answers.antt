@@ -18,4 +18,6 @@ returns c =
           (one_text-rows found (codes "summaries") ∙ e);
       history = λ b e. flag_is b c.get_flag-3.result _ c.get_flag-3.ensures.value c.get_flag-3.ensures.other
           (one_text-rows found (codes "history") ∙ e);
+      containers = λ b e. flag_is b c.get_flag-4.result _ c.get_flag-4.ensures.value c.get_flag-4.ensures.other
+          (one_text-rows found (codes "containers") ∙ e);
     }

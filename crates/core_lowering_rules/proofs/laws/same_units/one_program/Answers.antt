@@ -7,10 +7,11 @@ pub returns-clause-refused : goal.returns-clause-refused
 returns-clause-refused c us vs same = refusal-alike us vs same
 
 pub returns-clause-program : goal.returns-clause-program
-returns-clause-program c us vs same files is_recursive = program-alike us vs same files is_recursive
+returns-clause-program c us vs same containers files is_recursive =
+    program-alike us vs same containers files is_recursive
 
 pub returns-clause-edges : goal.returns-clause-edges
-returns-clause-edges c us vs same files = ap call_edges (draft-alike us vs same files)
+returns-clause-edges c us vs same containers files = ap call_edges (draft-alike us vs same containers files)
 
 pub returns-clause-lowered : goal.returns-clause-lowered
-returns-clause-lowered c us vs same files p q h k = lowered-alike us vs same files p q h k
+returns-clause-lowered c us vs same containers files p q h k = lowered-alike us vs same containers files p q h k

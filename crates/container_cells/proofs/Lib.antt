@@ -1,0 +1,2 @@
+-- The proof files.
+mod Misses
