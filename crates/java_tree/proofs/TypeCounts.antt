@@ -140,7 +140,3 @@ ty_has x y is = subst (λ z. TyHas (roll-TypeTree z)) is (search (rules, the_lem
 
 pub ty_counts : (t : TypeTree) → TyHas t
 ty_counts = ind-TypeTree BaseHas ArgumentHas AngledHas PartHas TyHas base_has argument_has angled_has part_has ty_has
-
-pub angled_counts : (a : TypeArguments) → AngledHas a
-angled_counts =
-    ind-TypeArguments BaseHas ArgumentHas AngledHas PartHas TyHas base_has argument_has angled_has part_has ty_has
