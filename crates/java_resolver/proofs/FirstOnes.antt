@@ -8,7 +8,7 @@ use Rattle.std.proofs.lemmas.Option.{same_Some, none-some}
 use Rattle.java_resolver.specs.declared.infos.ClassInfo.{ClassInfo}
 use Rattle.java_resolver.specs.Declarations.{class_names}
 use Rattle.java_resolver.specs.Firsts.{first_that}
-use Rattle.java_resolver_parts.specs.Numbers.{Key, key_eq, Named, number_at, or_added, AddsNumber}
+use Rattle.keyed_numbers.specs.Numbers.{Key, key_eq, Named, number_at, or_added, AddsNumber}
 use Rattle.java_resolver.specs.Indexes.{AddsElement, FindsFirsts, class_at}
 use Rattle.racer_base.proofs.Lists.{option_or-none}
 

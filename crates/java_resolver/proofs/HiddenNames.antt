@@ -5,7 +5,7 @@ use Rattle.java_tree.specs.declared.methods.ParameterTree.{ParameterTree}
 use Rattle.java_resolver.specs.Declarations.{takes_any_number}
 use Rattle.java_resolver.specs.Hidden.{is_hidden}
 use Rattle.java_resolver.specs.NameNumbers.{FindsNames}
-use Rattle.java_resolver_parts.specs.Numbers.{Named, number_at}
+use Rattle.keyed_numbers.specs.Numbers.{Named, number_at}
 use Rattle.java_resolver.proofs.SecondOnes.{any_first}
 
 pub hidden_found : (numbers : Named) (names : List (List ℕ)) (name : List ℕ) → FindsNames numbers names →

@@ -11,7 +11,7 @@ use Rattle.std.proofs.lemmas.List.{take_more}
 use Rattle.java_resolver.specs.declared.infos.MethodInfo.{MethodInfo}
 use Rattle.java_resolver.specs.Firsts.{first_that, only_that}
 use Rattle.java_resolver.specs.Indexes.{second_that, method_with_any_at, AddsSecond, AreWithAny}
-use Rattle.java_resolver_parts.specs.Numbers.{Key, key_eq, Named, number_at, or_added, AddsNumber}
+use Rattle.keyed_numbers.specs.Numbers.{Key, key_eq, Named, number_at, or_added, AddsNumber}
 use Rattle.java_resolver.proofs.FirstOnes.{first_that-push, length_taken, map_or, map_if}
 use Rattle.racer_base.proofs.Lists.{option_or-none}
 

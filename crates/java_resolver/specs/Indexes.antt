@@ -9,7 +9,7 @@ use Rattle.java_resolver.specs.declared.infos.MethodInfo.{MethodInfo}
 use Rattle.java_resolver.specs.declared.with_any.WithAny.{WithAny}
 use Rattle.java_resolver.specs.Declarations.{class_names, class_fields, class_methods, by_class}
 use Rattle.java_resolver.specs.Firsts.{first_that}
-use Rattle.java_resolver_parts.specs.Numbers.{Key, key_eq, Named, number_at, or_added}
+use Rattle.keyed_numbers.specs.Numbers.{Key, key_eq, Named, number_at, or_added}
 
 -- the number went to each name and key where the element belongs and none was
 abbrev pub AddsElement : {A : Type 0} → (List ℕ → Key → A → Bool) → Named → Named → A → ℕ → Type 0

@@ -15,10 +15,9 @@ use crate::infos::FieldInfo;
 use crate::kinds::kind_of;
 use crate::words::has_word;
 use container_cells::Family;
-use java_resolver_parts::{
-    Named, add_number, family_held, is_lock, no_numbers, number_at, number_of, type_begun,
-};
+use java_resolver_parts::{family_held, is_lock, type_begun};
 use java_tree::{ClassTree, FieldTree, FieldVariable, Member};
+use keyed_numbers::{Named, add_number, no_numbers, number_at, number_of};
 use racer_base::{ClassId, FieldId, Memory};
 use std::alloc::Global;
 use std::marker::Model;

@@ -4,8 +4,8 @@ ghost use Rattle.java_resolver.specs.NameNumbers.{FindsNames};
 ghost use Rattle.java_resolver.specs.Hidden.{is_hidden, hidden_in};
 
 use crate::local_classes::names_in;
-use java_resolver_parts::{Key, Named, add_number, no_numbers, number_at};
 use java_tree::MethodTree;
+use keyed_numbers::{Key, Named, add_number, no_numbers, number_at};
 use racer_base::{Memory, Text};
 use std::alloc::Global;
 use std::marker::Model;

@@ -20,10 +20,11 @@ use crate::infos::MethodInfo;
 use crate::kinds::{head_kind, parameter_kind, result_kind};
 use crate::with_any::{WithAny, is_enough, with_any_numbers};
 use crate::words::{has_word, is_annotated};
-use java_resolver_parts::{Named, add_number, method_meant, no_numbers, number_at, number_of};
+use java_resolver_parts::method_meant;
 use java_tree::{
     ClassTree, HeadResult, Member, MethodTree, OutsideHead, ParameterTree, ResultTree,
 };
+use keyed_numbers::{Named, add_number, no_numbers, number_at, number_of};
 use racer_base::{ClassId, Items, Kind, MAX_CLASSES, MAX_METHODS, Memory, MethodId, Text};
 use std::alloc::Global;
 use std::marker::Model;

@@ -5,7 +5,7 @@ ghost use Rattle.java_resolver.specs.Indexes.{AddsElement, AreWithAny, AddsSecon
 ghost use Rattle.java_resolver.specs.Meanings.{is_called_with_any, are_enough, is_enough};
 
 use crate::infos::MethodInfo;
-use java_resolver_parts::{Named, add_number, no_numbers, number_at};
+use keyed_numbers::{Named, add_number, no_numbers, number_at};
 use racer_base::{ClassId, Kind, Memory};
 use std::alloc::Global;
 

@@ -1,5 +1,4 @@
 -- A contract of a public call rests on this: the list of files.
 pub mod LockTypes
 pub mod ContainerTypes
-pub mod Numbers
 pub mod TypeParameters

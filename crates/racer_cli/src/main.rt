@@ -4,6 +4,8 @@
 #[cfg(test)]
 mod containers;
 #[cfg(test)]
+mod edits;
+#[cfg(test)]
 mod failing;
 #[cfg(test)]
 mod gates;

@@ -31,7 +31,7 @@ const EMPTY: &[u8] = b"racer report 1\nfiles 0 classes 0 methods 0\nwarnings 0 c
 
 const USAGE: &[u8] =
     b"usage: racer (FOLDER | --made N) [--workers N] [--json] [--summaries] [--history] \
-    [--containers] [--replay NAME]\n";
+    [--containers] [--replay NAME] [--edits NAME]\n";
 
 /// A report on an empty folder, into a sink that takes all at once.
 pub(crate) const PLAIN: Case = Case {
@@ -111,6 +111,22 @@ const CALLS: &[Case] = &[
     },
     Case {
         words: &["--made", "1", "--containers"],
+        ..WRONG
+    },
+    Case {
+        words: &["--edits", "e"],
+        ..WRONG
+    },
+    Case {
+        words: &["src", "--edits", "-"],
+        ..WRONG
+    },
+    Case {
+        words: &["src", "--edits", "e", "--containers"],
+        ..WRONG
+    },
+    Case {
+        words: &["src", "--edits", "e", "--replay", "w.json"],
         ..WRONG
     },
     Case {

@@ -1,4 +1,5 @@
 //! What one word asks to be shown.
+use crate::edits::put_session;
 use crate::methods::put_program;
 use crate::page::Page;
 use crate::replays::put_replays;
@@ -134,6 +135,7 @@ pub fn shown<R: Threads + Sync>(
     let put = match word {
         "tokens.rows" => put_file(alloc, folder, &mut page, Shows::Tokens, word),
         "units.rows" => put_file(alloc, folder, &mut page, Shows::Units, word),
+        name if name.starts_with("edits/") => put_session(rt, alloc, folder, &mut page, name),
         name => put_folder(rt, alloc, folder, &mut page, name),
     };
     if let Err(fault) = put {

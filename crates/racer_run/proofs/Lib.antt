@@ -1,6 +1,10 @@
 mod Written
+mod OneSession
 mod OneStatus
 mod OneReport
+mod FreshReports
 mod Tails
 mod JsonBytes
 mod CutWitnesses
+mod EditLines
+mod EditSessions

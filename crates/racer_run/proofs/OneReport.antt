@@ -8,10 +8,12 @@ use Rattle.racer_sources.specs.Programs.{Source, IsSource, Refusal, Accepted}
 use Rattle.racer_run.specs.declared.output.RunOutput.{RunOutput}
 use Rattle.racer_run.specs.declared.status.Status.{Status}
 use Rattle.racer_run.specs.declared.status.Status.TheVariants.{Memory}
-use Rattle.racer_words.specs.Words.{WantedReport, Request, ReportOn, ReplayOf, MadeOf, request_of}
+use Rattle.racer_words.specs.Words.{WantedReport, Request, ReportOn, ReplayOf, MadeOf, EditsOf}
+use Rattle.racer_words.specs.Words.{request_of}
 use Rattle.racer_run.specs.RunOutputs.{IsBehind, IsTail, SaysReport, said_from}
 use Rattle.racer_run.specs.Causes.{Invocation, Wrote, IsAnswer, IsCause, IsWhole, IsWholeAnswer}
 use Rattle.racer_run.specs.Reports.{AsksNoHistory, WroteOneReport}
+use Rattle.racer_run.proofs.OneSession.{edits_only}
 use Rattle.racer_run.proofs.OneStatus.{Due, by_usage, by_fault, by_said, due_of, usage_due}
 use Rattle.racer_run.proofs.OneStatus.{whole_answer, report_only, report_status, replay_only, made_only}
 use Rattle.racer_run.proofs.OneStatus.{rose, Ending, whole, cut, ending_of}
@@ -76,7 +78,7 @@ same_report one s t a b v w told first second asks_a asks_b folder mode containe
     (at_folder (ReportOn second) b.told told t w tells_b
     (whole_answer t b w y.text y.due y.whole (ReportOn second) asks_b quiet_b))
 
-nothing_behind : (wanted : WantedReport) (source : Source) (tail : List ℕ) → wanted.history ≡ false
+pub nothing_behind : (wanted : WantedReport) (source : Source) (tail : List ℕ) → wanted.history ≡ false
     → IsBehind wanted source tail → tail ≡ []
 nothing_behind wanted (Refusal line) tail none h = h
 nothing_behind wanted (Accepted program) tail none h =
@@ -122,6 +124,10 @@ request_bytes one (ReplayOf wanted) told s t v w before f g =
 request_bytes one (MadeOf wanted) told s t v w before f g =
     let both = one_answer (MadeOf wanted) (Some told) s t v w before f g
     (made_only one wanted f.said g.said f.says g.says) in
+    (both.0, (λ none. both.1))
+request_bytes one (EditsOf wanted) told s t v w before f g =
+    let both = one_answer (EditsOf wanted) (Some told) s t v w before f g
+    (edits_only one told.files wanted f.said g.said f.says g.says) in
     (both.0, (λ none. both.1))
 
 answers_bytes : OneSource → (s t : Status) (a b : Invocation) (v w : Wrote) (told : Told) → a.words ≡ b.words

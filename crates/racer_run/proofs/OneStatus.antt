@@ -12,14 +12,15 @@ use Rattle.racer_sources.specs.Programs.{Source, IsSource, Refusal, Accepted}
 use Rattle.racer_run.specs.declared.output.RunOutput.{RunOutput}
 use Rattle.racer_run.specs.declared.status.Status.{Status}
 use Rattle.racer_run.specs.declared.status.Status.TheVariants.{Clean, Warned, Usage, FolderFault, SinkFault, Refused}
-use Rattle.racer_run.specs.declared.status.Status.TheVariants.{Memory, NoRace, NotAWitness}
+use Rattle.racer_run.specs.declared.status.Status.TheVariants.{Memory, NoRace, NotAWitness, NotEdits}
 use Rattle.racer_words.specs.Words.{WantedReport, WantedReplay, WantedMade, Request, ReportOn, ReplayOf, MadeOf}
-use Rattle.racer_words.specs.Words.{request_of}
+use Rattle.racer_words.specs.Words.{EditsOf, request_of}
 use Rattle.racer_run.specs.RunOutputs.{SaysReport, said_from, usage_text}
 use Rattle.racer_run.specs.Replays.{IsReplaySaid, SaysReplay, replay_said}
 use Rattle.racer_run.specs.Made.{SaysMade, made_files, made_said}
 use Rattle.racer_run.specs.Causes.{Invocation, Wrote, IsUsage, IsFault, IsSaid, IsDue, IsAnswer, IsCut, IsCause, Says}
 use Rattle.racer_run.specs.Causes.{is_said_to, IsWhole, IsWholeAnswer}
+use Rattle.racer_run.proofs.OneSession.{edits_only}
 
 -- ---- what is said to a request is due
 
@@ -27,21 +28,25 @@ no_usage : (r : Request) → is_said_to r Usage ≡ true → ⊥
 no_usage (ReportOn wanted) e = let bad : ◌≡◌ {A = Bool} false true = e in cc
 no_usage (ReplayOf wanted) e = let bad : ◌≡◌ {A = Bool} false true = e in cc
 no_usage (MadeOf wanted) e = let bad : ◌≡◌ {A = Bool} false true = e in cc
+no_usage (EditsOf wanted) e = let bad : ◌≡◌ {A = Bool} false true = e in cc
 
 no_fault : (r : Request) → is_said_to r FolderFault ≡ true → ⊥
 no_fault (ReportOn wanted) e = let bad : ◌≡◌ {A = Bool} false true = e in cc
 no_fault (ReplayOf wanted) e = let bad : ◌≡◌ {A = Bool} false true = e in cc
 no_fault (MadeOf wanted) e = let bad : ◌≡◌ {A = Bool} false true = e in cc
+no_fault (EditsOf wanted) e = let bad : ◌≡◌ {A = Bool} false true = e in cc
 
 no_sink : (r : Request) → is_said_to r SinkFault ≡ true → ⊥
 no_sink (ReportOn wanted) e = let bad : ◌≡◌ {A = Bool} false true = e in cc
 no_sink (ReplayOf wanted) e = let bad : ◌≡◌ {A = Bool} false true = e in cc
 no_sink (MadeOf wanted) e = let bad : ◌≡◌ {A = Bool} false true = e in cc
+no_sink (EditsOf wanted) e = let bad : ◌≡◌ {A = Bool} false true = e in cc
 
 no_memory : (r : Request) → is_said_to r Memory ≡ true → ⊥
 no_memory (ReportOn wanted) e = let bad : ◌≡◌ {A = Bool} false true = e in cc
 no_memory (ReplayOf wanted) e = let bad : ◌≡◌ {A = Bool} false true = e in cc
 no_memory (MadeOf wanted) e = let bad : ◌≡◌ {A = Bool} false true = e in cc
+no_memory (EditsOf wanted) e = let bad : ◌≡◌ {A = Bool} false true = e in cc
 
 pub said_due : (s : Status) (asked : Invocation) (text : List ℕ) → IsSaid s asked text → IsDue s asked text
 said_due Clean asked text h = h
@@ -49,6 +54,7 @@ said_due Warned asked text h = h
 said_due Refused asked text h = h
 said_due NoRace asked text h = h
 said_due NotAWitness asked text h = h
+said_due NotEdits asked text h = h
 said_due Usage asked text h = absurd (no_usage h.request h.fits)
 said_due FolderFault asked text h = absurd (no_fault h.request h.fits)
 said_due SinkFault asked text h = absurd (no_sink h.request h.fits)
@@ -68,6 +74,7 @@ due_of FolderFault asked text h = by_fault refl h
 due_of Refused asked text h = by_said h
 due_of NoRace asked text h = by_said h
 due_of NotAWitness asked text h = by_said h
+due_of NotEdits asked text h = by_said h
 due_of SinkFault asked text h = absurd h
 due_of Memory asked text h = absurd h
 
@@ -128,6 +135,7 @@ whole_cause FolderFault asked wrote text due is_whole = record { text = text; du
 whole_cause Refused asked wrote text due is_whole = record { text = text; due = due; whole = is_whole }
 whole_cause NoRace asked wrote text due is_whole = record { text = text; due = due; whole = is_whole }
 whole_cause NotAWitness asked wrote text due is_whole = record { text = text; due = due; whole = is_whole }
+whole_cause NotEdits asked wrote text due is_whole = record { text = text; due = due; whole = is_whole }
 whole_cause SinkFault asked wrote text due is_whole = absurd due
 whole_cause Memory asked wrote text due is_whole = absurd due
 
@@ -182,6 +190,8 @@ status_only one (ReportOn wanted) told a b f g = report_status one told.files wa
 status_only one (ReplayOf wanted) told a b f g =
     ap (λ (said : RunOutput). said.status) (replay_only one told.files wanted a b f g)
 status_only one (MadeOf wanted) told a b f g = ap (λ (said : RunOutput). said.status) (made_only one wanted a b f g)
+status_only one (EditsOf wanted) told a b f g =
+    ap (λ (said : RunOutput). said.status) (edits_only one told.files wanted a b f g)
 
 due_status : OneSource → (s t : Status) (asked : Invocation) (told : Told) (x y : List ℕ) → asked.told ≡ Some told
     → Due s asked x → Due t asked y → s ≡ t
@@ -211,6 +221,7 @@ ending_of Refused asked wrote n h = whole h
 ending_of Memory asked wrote n h = absurd (n refl)
 ending_of NoRace asked wrote n h = whole h
 ending_of NotAWitness asked wrote n h = whole h
+ending_of NotEdits asked wrote n h = whole h
 
 ending_only : OneSource → (s t : Status) (asked : Invocation) (wrote : Wrote) (told : Told) → asked.told ≡ Some told
     → Ending s asked wrote → Ending t asked wrote → s ≡ t

@@ -7,13 +7,14 @@ use Rattle.racer_base.specs.Outside.{Told, taken_and}
 use Rattle.racer_run.specs.declared.output.RunOutput.{RunOutput}
 use Rattle.racer_run.specs.declared.status.Status.{Status}
 use Rattle.racer_run.specs.declared.status.Status.TheVariants.{Clean, Warned, Usage, FolderFault, SinkFault, Refused}
-use Rattle.racer_run.specs.declared.status.Status.TheVariants.{Memory, NoRace, NotAWitness}
-use Rattle.racer_words.specs.Words.{Request, ReportOn, ReplayOf, MadeOf, request_of}
+use Rattle.racer_run.specs.declared.status.Status.TheVariants.{Memory, NoRace, NotAWitness, NotEdits}
+use Rattle.racer_words.specs.Words.{Request, ReportOn, ReplayOf, MadeOf, EditsOf, request_of}
 use Rattle.racer_run.specs.Requests.{is_on_folder}
 use Rattle.racer_run.specs.RunOutputs.{usage_text, fault_text, SaysReport}
 use Rattle.racer_run.specs.Replays.{SaysReplay}
 use Rattle.racer_run.specs.Made.{SaysMade}
-use Rattle.racer_run.specs.Statuses.{is_report_status, is_replay_status, is_made_status}
+use Rattle.racer_run.specs.Sessions.{SaysEdits, HasEdits}
+use Rattle.racer_run.specs.Statuses.{is_report_status, is_replay_status, is_made_status, is_edits_status}
 
 -- What can be seen of a call's words and folder: the words, what the folder tells, and its counts of faults.
 pub record Invocation : Type 0 where
@@ -28,11 +29,12 @@ asked_of told faults words old new =
     record { words = map string_bytes words; told = told old; before = faults old; after = faults new }
 
 -- the request can be answered over a folder that tells this: it is the folder that is asked for, and a witness is one
--- of its files
+-- of its files, or a file of edits, with each file that these name
 abbrev pub IsFor : Request → Told → Type 0
 IsFor (ReportOn wanted) told = wanted.folder ≡ told.name
 IsFor (ReplayOf wanted) told = (wanted.folder ≡ told.name) × (contains_key told.files wanted.witness ≡ true)
 IsFor (MadeOf wanted) told = Unit {0}
+IsFor (EditsOf wanted) told = (wanted.folder ≡ told.name) × HasEdits told.files wanted.edits
 
 -- the words make such a request
 abbrev pub AsksFor : List (String Global) → Told → Type 0
@@ -87,18 +89,21 @@ abbrev pub IsEntered : Request → Told → Type 0
 IsEntered (ReportOn wanted) told = wanted.folder ≡ told.name
 IsEntered (ReplayOf wanted) told = wanted.folder ≡ told.name
 IsEntered (MadeOf wanted) told = Unit {0}
+IsEntered (EditsOf wanted) told = wanted.folder ≡ told.name
 
 -- this is what is said to a request, by what the folder tells
 abbrev pub Says : Request → Option Told → RunOutput → Type 0
 Says (ReportOn wanted) tells said = IfSome tells (λ told. SaysReport wanted told.files said)
 Says (ReplayOf wanted) tells said = IfSome tells (λ told. SaysReplay wanted told.files said)
 Says (MadeOf wanted) tells said = SaysMade wanted said
+Says (EditsOf wanted) tells said = IfSome tells (λ told. SaysEdits wanted told.files said)
 
 -- the statuses of what is said to a request
 abbrev pub is_said_to : Request → Status → Bool
 is_said_to (ReportOn wanted) = is_report_status
 is_said_to (ReplayOf wanted) = is_replay_status
 is_said_to (MadeOf wanted) = is_made_status
+is_said_to (EditsOf wanted) = is_edits_status
 
 -- the words make this request, the folder did not fail, and this is what is said
 pub record IsSaid (status : Status) (asked : Invocation) (text : List ℕ) : Type 0 where
@@ -120,6 +125,7 @@ IsDue Refused asked text = IsSaid Refused asked text
 IsDue Memory asked text = ⊥
 IsDue NoRace asked text = IsSaid NoRace asked text
 IsDue NotAWitness asked text = IsSaid NotAWitness asked text
+IsDue NotEdits asked text = IsSaid NotEdits asked text
 
 -- each text that may be due is at most so long
 abbrev pub IsRoomFor : ℕ → Invocation → Type 0
@@ -149,6 +155,7 @@ IsCause Refused asked wrote = IsAnswer Refused asked wrote
 IsCause Memory asked wrote = IsNothing wrote
 IsCause NoRace asked wrote = IsAnswer NoRace asked wrote
 IsCause NotAWitness asked wrote = IsAnswer NotAWitness asked wrote
+IsCause NotEdits asked wrote = IsAnswer NotEdits asked wrote
 
 -- what is said to the request was written whole, and gives the status
 pub record IsWholeAnswer (request : Request) (tells : Option Told) (status : Status) (wrote : Wrote) : Type 0 where
@@ -157,11 +164,13 @@ pub record IsWholeAnswer (request : Request) (tells : Option Told) (status : Sta
   pub gives : status ≡ said.status
   pub whole : IsWhole wrote said.text
 
--- a made folder is asked for; or a folder that tells itself, and has the file of a witness that is asked for
+-- a made folder is asked for; or a folder that tells itself, and has the file of a witness that is asked for, or of
+-- edits with what they name
 abbrev pub CanAnswer : Request → Option Told → Type 0
 CanAnswer (ReportOn wanted) tells = IsSomeAnd tells (IsFor (ReportOn wanted))
 CanAnswer (ReplayOf wanted) tells = IsSomeAnd tells (IsFor (ReplayOf wanted))
 CanAnswer (MadeOf wanted) tells = Unit {0}
+CanAnswer (EditsOf wanted) tells = IsSomeAnd tells (IsFor (EditsOf wanted))
 
 -- where the words make such a request, and no count rose, the answer is whole, or memory was refused
 abbrev pub IsComplete : Status → Invocation → Wrote → Type 0

@@ -2,7 +2,7 @@
 use Rattle.std.specs.Prelude.{ℕ}
 use Rattle.racer_run.specs.declared.status.Status.{Status}
 use Rattle.racer_run.specs.declared.status.Status.TheVariants.{Clean, Warned, Usage, FolderFault, SinkFault, Refused}
-use Rattle.racer_run.specs.declared.status.Status.TheVariants.{Memory, NoRace, NotAWitness}
+use Rattle.racer_run.specs.declared.status.Status.TheVariants.{Memory, NoRace, NotAWitness, NotEdits}
 
 abbrev pub number_of : Status → ℕ
 number_of Clean = 0
@@ -14,3 +14,4 @@ number_of Refused = 5
 number_of Memory = 6
 number_of NoRace = 7
 number_of NotAWitness = 8
+number_of NotEdits = 9

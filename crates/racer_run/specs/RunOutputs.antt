@@ -20,8 +20,8 @@ use Rattle.racer_words.specs.Words.{WantedReport}
 
 abbrev pub usage_text : List ℕ
 usage_text =
-    codes
-    "usage: racer (FOLDER | --made N) [--workers N] [--json] [--summaries] [--history] [--containers] [--replay NAME]\n"
+    codes "usage: racer (FOLDER | --made N) [--workers N] [--json] [--summaries] [--history] [--containers]"
+    ++ codes " [--replay NAME] [--edits NAME]\n"
 
 abbrev pub fault_text : List ℕ
 fault_text = codes "folder fault\n"

@@ -2,6 +2,7 @@
 use Rattle.std.specs.Prelude.{Bool, true, false}
 use Rattle.racer_run.specs.declared.status.Status.{Status}
 use Rattle.racer_run.specs.declared.status.Status.TheVariants.{Clean, Warned, Refused, NoRace, NotAWitness}
+use Rattle.racer_run.specs.declared.status.Status.TheVariants.{NotEdits}
 
 -- a report is clean or warns, or its sources are refused
 abbrev pub is_report_status : Status → Bool
@@ -23,3 +24,12 @@ abbrev pub is_made_status : Status → Bool
 is_made_status Clean = true
 is_made_status Warned = true
 is_made_status _ = false
+
+-- the last report of a session is clean or warns, or what an edit makes of the sources is refused, or the sources
+-- themselves; or the file has no edits
+abbrev pub is_edits_status : Status → Bool
+is_edits_status Clean = true
+is_edits_status Warned = true
+is_edits_status Refused = true
+is_edits_status NotEdits = true
+is_edits_status _ = false

@@ -10,6 +10,7 @@ use crate::made::reported_on_made;
 use crate::output::{RunOutput, line};
 use crate::replays::replayed_on;
 use crate::reports::reported_on;
+use crate::sessions::edited_on;
 use crate::status::Status;
 use racer_base::{Folder, FolderFault, Gate, Memory};
 use racer_words::{Request, read_words};
@@ -20,7 +21,7 @@ use std::thread::Threads;
 /// The usage line.
 const USAGE: &str =
     "usage: racer (FOLDER | --made N) [--workers N] [--json] [--summaries] [--history] \
-    [--containers] [--replay NAME]\n";
+    [--containers] [--replay NAME] [--edits NAME]\n";
 
 /// What is said to a request.
 fn answered<R: Threads + Wait + Sync, F: Folder, G: Gate + Sync>(
@@ -43,6 +44,7 @@ fn answered<R: Threads + Wait + Sync, F: Folder, G: Gate + Sync>(
         Request::ReportOn(wanted) => reported_on(rt, alloc, folder, wanted, gate),
         Request::ReplayOf(wanted) => replayed_on(alloc, folder, wanted),
         Request::MadeOf(wanted) => Ok(reported_on_made(rt, alloc, wanted, gate)?),
+        Request::EditsOf(wanted) => edited_on(rt, alloc, folder, wanted),
     }
 }
 

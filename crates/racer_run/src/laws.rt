@@ -7,6 +7,12 @@ ghost use Rattle.racer_words.specs.Words.{WantedReport, WantedReplay, ReportOn, 
 ghost use Rattle.racer_run.specs.Witnesses.{IsCall, IsCutOut};
 ghost use Rattle.racer_run.specs.Causes.{Invocation, Wrote, IsCause, IsWhole};
 ghost use Rattle.racer_run.specs.Reports.{AsksNoHistory, WroteOneReport};
+ghost use Rattle.core_code.specs.Core.{Core};
+ghost use Rattle.racer_base.specs.Outside.{Files};
+ghost use Rattle.racer_sources.specs.Programs.{Source};
+ghost use Rattle.racer_run.specs.Edits.{Edit};
+ghost use Rattle.racer_run.specs.Fresh.{TellFresh};
+ghost use Rattle.racer_run.specs.Sessions.{AreSources};
 
 use racer_sources::laws::{one_source, other_files_are_not_seen};
 
@@ -63,4 +69,13 @@ pub fn cut_witnesses_replay()
 {
     one_source();
     other_files_are_not_seen();
+}
+
+/// What is said of each edit of a session is its line, and then, word for word, what a fresh run says of the files as
+/// they are then, whatever was kept: the report, or the line of the refusal.
+pub fn sessions_tell_fresh_reports()
+    ensures { (folder now : Files) (last : Core) (edits : List Edit) (sources : List Source) →
+        AreSources folder now last edits sources → TellFresh folder now last edits sources }
+{
+    one_source();
 }

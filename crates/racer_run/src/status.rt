@@ -26,6 +26,8 @@ pub enum Status {
     NoRace,
     /// A file that was to be replayed is no witness.
     NotAWitness,
+    /// A file that was to have edits has none, with a line that says where.
+    NotEdits,
 }
 
 impl Status {
@@ -50,6 +52,7 @@ impl Status {
             Status::Memory => 6,
             Status::NoRace => 7,
             Status::NotAWitness => 8,
+            Status::NotEdits => 9,
         }
     }
 }

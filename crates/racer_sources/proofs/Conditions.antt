@@ -15,7 +15,8 @@ use Rattle.racer_sources.specs.declared.refusal.Refusal.TheVariants.{TooManyCall
 use Rattle.racer_sources.specs.declared.found.AcceptedSources.{AcceptedSources}
 use Rattle.racer_sources.specs.Sources.{contents, source_names, AreAccepted}
 use Rattle.racer_sources.specs.Lines.{refusal_line}
-use Rattle.racer_sources.specs.Finding.{AreReadSomehow, AreKnown}
+use Rattle.racer_sources.specs.Finding.{AreReadSomehow, AreKnown, IsFound}
+use Rattle.racer_sources.specs.declared.found.FolderSources.TheVariants as sources
 use Rattle.racer_sources.specs.declared.programs.FoundProgram.{FoundProgram}
 use Rattle.racer_sources.specs.declared.programs.FoundProgram.TheVariants as found
 use Rattle.racer_sources.specs.Programs.{IsSource, source_of}
@@ -45,27 +46,26 @@ pub names_known : HaveNames → (names : List (List ℕ)) (us : List unit.Unit) 
 names_known law names us t known = law us (from_tokens 0 us known.read)
 
 -- what accepted sources are lowered to is what the sources are
-lowered_source : (containers : Containers) (files : Files) (s : AcceptedSources) (f : FoundProgram)
-    → AreAccepted (contents files) s.units.items → map string_bytes s.names.items ≡ source_names files →
-    IsLoweredFrom containers (map string_bytes s.names.items) s.units.items f
-    → IsSource containers files (source_of f)
-lowered_source containers files s (found.Accepted program) accepted names low =
+pub lowered_source : (containers : Containers) (files : Files) (names : List (List ℕ)) (units : List unit.Unit)
+    (f : FoundProgram) → AreAccepted (contents files) units → names ≡ source_names files
+    → IsLoweredFrom containers names units f → IsSource containers files (source_of f)
+lowered_source containers files names units (found.Accepted program) accepted same low =
     record {
-      units = s.units.items;
+      units = units;
       accepted = accepted;
       few = low.0;
-      lowered = subst (λ (ns : List (List ℕ)). IsLowered containers ns s.units.items (core program)) names low.1;
+      lowered = subst (λ (ns : List (List ℕ)). IsLowered containers ns units (core program)) same low.1;
     }
-lowered_source containers files s (found.Refused line) accepted names low = (
+lowered_source containers files names units (found.Refused line) accepted same low = (
   TooManyCalls low.0,
-  record { units = s.units.items; accepted = accepted; counted = low.1; many = low.2 },
-  low.3 ∙ ap (λ (ns : List (List ℕ)). refusal_line ns (TooManyCalls low.0)) names,
+  record { units = units; accepted = accepted; counted = low.1; many = low.2 },
+  low.3 ∙ ap (λ (ns : List (List ℕ)). refusal_line ns (TooManyCalls low.0)) same,
 )
 
 pub lowered_there : (containers : Containers) (o : Option Told) (s : AcceptedSources) (f : FoundProgram)
-    → IfSome o (λ (t : Told). AreAccepted (contents t.files) s.units.items
-    × (map string_bytes s.names.items ≡ source_names t.files))
+    → IfSome o (λ (t : Told). IsFound t.files (sources.Accepted s))
     → IsLoweredFrom containers (map string_bytes s.names.items) s.units.items f
     → IfSome o (λ (t : Told). IsSource containers t.files (source_of f))
 lowered_there containers None s f accepted low = tt
-lowered_there containers (Some t) s f accepted low = lowered_source containers t.files s f accepted.0 accepted.1 low
+lowered_there containers (Some t) s f accepted low =
+    lowered_source containers t.files (map string_bytes s.names.items) s.units.items f accepted.0 accepted.1 low

@@ -8,4 +8,8 @@ mod OneRefusal
 mod OneSource
 pub mod OneReading
 mod Conditions
+mod ReadContents
+mod Declared
+mod Replaced
+mod KeptPrograms
 mod OtherFiles

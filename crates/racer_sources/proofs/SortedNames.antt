@@ -23,11 +23,11 @@ use Rattle.racer_base.specs.Outside.{Told, Files, AreNames, same_name}
 use Rattle.racer_sources.specs.Sources.{is_java, source_names}
 
 -- keys with nothing at each
-abbrev marked : List (List ℕ) → List (List ℕ × Unit {0})
+abbrev pub marked : List (List ℕ) → List (List ℕ × Unit {0})
 marked [] = []
 marked (k ∷ ks) = (k, tt) ∷ marked ks
 
-abbrev order : List ℕ → List ℕ → Ordering
+abbrev pub order : List ℕ → List ℕ → Ordering
 order = slice_cmp nat_cmp
 
 map-marked : (ks : List (List ℕ)) → map (λ (e : List ℕ × Unit {0}). e.0) (marked ks) ≡ ks
@@ -49,7 +49,7 @@ below_keys : (k : List ℕ) (es : List (List ℕ × List ℕ)) →
 below_keys k [] = refl
 below_keys k (e ∷ es) = ap (λ b. is_lt (order k e.0) && b) (below_keys k es)
 
-is_sorted-keys : (es : List (List ℕ × List ℕ)) → is_sorted order (marked (map (λ e. e.0) es)) ≡ is_sorted order es
+pub is_sorted-keys : (es : List (List ℕ × List ℕ)) → is_sorted order (marked (map (λ e. e.0) es)) ≡ is_sorted order es
 is_sorted-keys [] = refl
 is_sorted-keys (e ∷ es) = ap (λ b. b && is_sorted order (marked (map (λ e. e.0) es))) (below_keys e.0 es)
     ∙ ap (λ b. below_all order e.0 es && b) (is_sorted-keys es)

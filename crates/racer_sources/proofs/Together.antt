@@ -29,7 +29,7 @@ never_one r none n sum [] h = h
 never_one r none n sum (bytes ∷ files) (inl h) = none _ _ bytes h
 never_one r none n sum (bytes ∷ files) (inr h) = never_one r none (suc n) (sum + length bytes) files h.2
 
-one_refused : (files : List (List ℕ)) (r : Refusal) → length files ≤ MAX_FILES → IsOneRefused 0 0 files r
+pub one_refused : (files : List (List ℕ)) (r : Refusal) → length files ≤ MAX_FILES → IsOneRefused 0 0 files r
     → AreRefused files r
 one_refused files (TooLong f) few h = record { few = few; one = h }
 one_refused files (TooManyBytes n) few h = record { few = few; one = h }
@@ -93,7 +93,7 @@ declared_faults units (resolve.TooManyMethods n) (inl e) = absurd cc
 declared_faults units (resolve.TooManyMethods n) (inr e) = e
 declared_faults units resolve.Memory h = tt
 
-declared_refused : (files : List (List ℕ)) (units : List unit.Unit) (r : Refusal) → AreRead files units
+pub declared_refused : (files : List (List ℕ)) (units : List unit.Unit) (r : Refusal) → AreRead files units
     → IsDeclared units r → AreRefused files r
 declared_refused files units (DuplicateClass p q) read e = record { units = units; read = read; some = e }
 declared_refused files units (DuplicateField p q) read e = record { units = units; read = read; some = e }

@@ -1,5 +1,5 @@
 -- No public contract rests on this: why units are refused together, and what is answered where sources are.
-use Rattle.std.specs.Prelude.{◌≡◌, ℕ, List, Result, Ok, Err, Some}
+use Rattle.std.specs.Prelude.{◌≡◌, ℕ, List, Result, Ok, Err, None, Some}
 use Rattle.racer_base.specs.declared.outside.FolderFault.{FolderFault}
 use Rattle.racer_base.specs.declared.outside.FolderFault.TheVariants as folder
 use Rattle.java_tree.specs.declared.unit.Unit as unit
@@ -10,9 +10,17 @@ use Rattle.racer_sources.specs.declared.refusal.Refusal.{Refusal}
 use Rattle.racer_sources.specs.declared.refusal.Refusal.TheVariants as refusals
 use Rattle.racer_sources.specs.declared.fault.SourceFault.{SourceFault}
 use Rattle.racer_sources.specs.declared.fault.SourceFault.TheVariants.{Refused, Failed, Memory}
+use Rattle.racer_sources.specs.declared.found.DeclaredUnits.{DeclaredUnits}
 use Rattle.racer_sources.specs.declared.found.FolderSources.{FolderSources}
 use Rattle.racer_sources.specs.declared.found.FolderSources.TheVariants as found
+use Rattle.racer_sources.specs.Finding.{IsTableOf}
 use Rattle.racer_sources.specs.Lines.{refusal_line}
+
+-- units that are not refused, and what they declare
+pub record AreDeclared (units : List unit.Unit) (d : DeclaredUnits) : Type 0 where
+  pub units_are : d.units.items ≡ units
+  pub table : IsTableOf units d.table
+  pub none : refusal units ≡ None
 
 abbrev pub as_declared_fault : ResolveFault → SourceFault
 as_declared_fault (resolve.DuplicateClass second first) = Refused (refusals.DuplicateClass second first)

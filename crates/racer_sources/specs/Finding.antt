@@ -15,6 +15,7 @@ use Rattle.racer_sources.specs.declared.refusal.Refusal.{Refusal}
 use Rattle.racer_sources.specs.declared.found.FolderSources.{FolderSources}
 use Rattle.racer_sources.specs.declared.found.FolderSources.TheVariants.{Accepted, Refused}
 use Rattle.racer_sources.specs.Sources.{source_names, contents, IsRead, AreAccepted, AreRefused}
+use Rattle.racer_sources.specs.Contents.{bytes_in, AreInLimits}
 use Rattle.racer_sources.specs.Lines.{refusal_line}
 
 -- the count of faults stayed, or moved as the fault says
@@ -50,7 +51,9 @@ pub record AreKnown (names : List (List ℕ)) (units : List unit.Unit) (t : Tabl
   pub read : AreReadSomehow 0 units
 
 abbrev pub IsKnown : FolderSources → Type 0
-IsKnown (Accepted s) = AreKnown (map string_bytes s.names.items) s.units.items s.table
+IsKnown (Accepted s) =
+    AreKnown (map string_bytes s.names.items) s.units.items s.table
+    × AreInLimits (length s.names.items) s.contents.items
 IsKnown (Refused line) = Unit {0}
 
 -- ---- what is found where it tells them
@@ -59,5 +62,6 @@ IsKnown (Refused line) = Unit {0}
 abbrev pub IsFound : Files → FolderSources → Type 0
 IsFound files (Accepted s) =
     AreAccepted (contents files) s.units.items × (map string_bytes s.names.items ≡ source_names files)
+    × (bytes_in s.contents.items ≡ contents files)
 IsFound files (Refused line) =
     (r : Refusal) × AreRefused (contents files) r × (line ≡ refusal_line (source_names files) r)

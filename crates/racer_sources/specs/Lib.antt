@@ -7,3 +7,6 @@ pub mod Declaring
 pub mod Programs
 pub mod Lowering
 pub mod OneReading
+pub mod Contents
+pub mod ReadContents
+pub mod Kept

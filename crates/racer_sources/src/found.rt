@@ -4,6 +4,7 @@ ghost use Rattle.java_resolver.specs.Refusals.{refusal};
 ghost use Rattle.racer_sources.specs.Sources as sources;
 ghost use Rattle.racer_sources.specs.Reading as reading;
 ghost use Rattle.racer_sources.specs.Finding as finding;
+ghost use Rattle.racer_sources.specs.ReadContents as kept;
 ghost use Rattle.racer_sources.specs.Declaring as declaring;
 
 use crate::fault::SourceFault;
@@ -17,10 +18,12 @@ use java_tree::Unit;
 use racer_base::{Folder, FolderFault, MAX_FILES, Text};
 use std::alloc::Global;
 
-/// The sources of a folder, in byte order of their names: the names, what they are read as, and what that declares.
+/// The sources of a folder, in byte order of their names: the names, the bytes, what they are read as, and what that
+/// declares.
 #[derive(Drop)]
 pub struct AcceptedSources {
     pub names: Vec<String>,
+    pub contents: Vec<Vec<u8>>,
     pub units: Vec<Unit>,
     pub table: Table,
 }
@@ -67,11 +70,12 @@ fn table_of(alloc: Global, units: &[Unit]) -> Result<Table, SourceFault>
     }
 }
 
-/// Reads the sources of these names, if they are not too many.
+/// Reads the sources of these names, if they are not too many, and keeps their bytes.
 fn read_few<F: Folder>(
     alloc: Global,
     folder: &mut F,
     names: &[String],
+    contents: &mut Vec<Vec<u8>>,
 ) -> Result<Vec<Unit>, SourceFault>
     ensures count { reading.Counts result (F.faults folder.old) (F.faults folder.new) }
     ensures keeps { finding.KeepsMeaning F.told F.steady folder.old folder.new }
@@ -83,18 +87,35 @@ fn read_few<F: Folder>(
         sources.AreRead (reading.bytes_of_all t.files (map string_bytes names.now)) units.items)) }
     ensures refused { IfErr result (λ fault. IfSome (F.told folder.old) (λ t. reading.IfRefused fault
         (sources.AreRefused (reading.bytes_of_all t.files (map string_bytes names.now))))) }
+    ensures kept_any { OnOk result (kept.AddSomeContents (length names.now) contents.old contents.new) }
+    ensures kept { OnOk result (IfSome (F.told folder.old) (λ t.
+        kept.AddContents (reading.bytes_of_all t.files (map string_bytes names.now)) contents.old contents.new)) }
 {
     if names.len() > MAX_FILES {
         return Err(SourceFault::Refused(Refusal::TooManyFiles(names.len())));
     }
-    read_all(alloc, folder, names)
+    read_all(alloc, folder, names, contents)
 }
 
 /// Units and what they declare.
 #[derive(Drop)]
-struct DeclaredUnits {
-    units: Vec<Unit>,
-    table: Table,
+pub(crate) struct DeclaredUnits {
+    pub units: Vec<Unit>,
+    pub table: Table,
+}
+
+/// What units declare.
+pub(crate) fn with_table(alloc: Global, units: Vec<Unit>) -> Result<DeclaredUnits, SourceFault>
+    ensures ok { IfOk result (declaring.AreDeclared units.items) }
+    ensures fault { IfErr result (declaring.IsDeclaredFault units.items) }
+{
+    match table_of(alloc, units.as_slice()) {
+        Ok(table) => Ok(DeclaredUnits { units, table }),
+        Err(fault) => {
+            let_all_go(units);
+            Err(fault)
+        }
+    }
 }
 
 /// What the sources of these names declare.
@@ -102,6 +123,7 @@ fn declared<F: Folder>(
     alloc: Global,
     folder: &mut F,
     names: &[String],
+    contents: &mut Vec<Vec<u8>>,
 ) -> Result<DeclaredUnits, SourceFault>
     ensures count { reading.Counts result (F.faults folder.old) (F.faults folder.new) }
     ensures keeps { finding.KeepsMeaning F.told F.steady folder.old folder.new }
@@ -112,15 +134,12 @@ fn declared<F: Folder>(
         sources.AreAccepted (reading.bytes_of_all t.files (map string_bytes names.now)) d.units.items)) }
     ensures refused { IfErr result (λ fault. IfSome (F.told folder.old) (λ t. reading.IfRefused fault
         (sources.AreRefused (reading.bytes_of_all t.files (map string_bytes names.now))))) }
+    ensures kept_any { OnOk result (kept.AddSomeContents (length names.now) contents.old contents.new) }
+    ensures kept { OnOk result (IfSome (F.told folder.old) (λ t.
+        kept.AddContents (reading.bytes_of_all t.files (map string_bytes names.now)) contents.old contents.new)) }
 {
-    let units = read_few(alloc, folder, names)?;
-    match table_of(alloc, units.as_slice()) {
-        Ok(table) => Ok(DeclaredUnits { units, table }),
-        Err(fault) => {
-            let_all_go(units);
-            Err(fault)
-        }
-    }
+    let units = read_few(alloc, folder, names, contents)?;
+    with_table(alloc, units)
 }
 
 /// The line of sources that are refused, or the folder's fault.
@@ -143,7 +162,7 @@ fn refused(
 
 /// Enters the folder of this name, and reads its sources: the files whose names end in `.java`, in byte order.
 ///
-/// Of each file the tokens are let go before the next one is read.
+/// Of each file the tokens are let go before the next one is read; its bytes are kept.
 pub fn sources<F: Folder>(
     alloc: Global,
     folder: &mut F,
@@ -158,9 +177,11 @@ pub fn sources<F: Folder>(
     ensures found { IfOk result (λ found. IfSome (F.told folder.old) (λ told. finding.IsFound told.files found)) }
 {
     let names = source_names(alloc, folder, name)?;
-    match declared(alloc, folder, names.as_slice()) {
+    let mut contents = Vec::new(alloc);
+    match declared(alloc, folder, names.as_slice(), &mut contents) {
         Ok(declared) => Ok(FolderSources::Accepted(AcceptedSources {
             names,
+            contents,
             units: declared.units,
             table: declared.table,
         })),

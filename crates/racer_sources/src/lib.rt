@@ -12,14 +12,18 @@
 mod fault;
 mod file;
 mod found;
+mod kept;
 pub mod laws;
 mod line;
 mod names;
 mod programs;
 mod refusal;
+mod source_files;
 mod units;
 
 pub use found::{AcceptedSources, FolderSources, let_go, sources};
+pub use kept::{KeptProgram, kept_program};
 pub use line::refusal_line;
 pub use programs::{FoundProgram, folder_program};
 pub use refusal::Refusal;
+pub use source_files::SourceFiles;

@@ -49,23 +49,17 @@ fn lower_as(
 }
 
 /// The same, or the line of their calls.
-fn lowered(
+pub(crate) fn lowered(
     alloc: Global,
-    found: &AcceptedSources,
+    table: &Table,
+    units: &[Unit],
+    names: &[String],
     containers: Containers,
 ) -> Result<FoundProgram, Memory>
-    requires { finding.AreKnown (map string_bytes found.now.names.items) found.now.units.items found.now.table }
-    ensures { IfOk result
-        (lowering.IsLoweredFrom containers (map string_bytes found.now.names.items) found.now.units.items) }
+    requires { finding.AreKnown (map string_bytes names.now) units.now table.now }
+    ensures { IfOk result (lowering.IsLoweredFrom containers (map string_bytes names.now) units.now) }
 {
-    let names = found.names.as_slice();
-    match lower_as(
-        alloc,
-        &found.table,
-        found.units.as_slice(),
-        names,
-        containers,
-    ) {
+    match lower_as(alloc, table, units, names, containers) {
         Ok(program) => Ok(FoundProgram::Accepted(program)),
         Err(LowerFault::TooManyCalls(count)) => {
             let line = refusal_line(alloc, names, Refusal::TooManyCalls(count))?;
@@ -75,8 +69,28 @@ fn lowered(
     }
 }
 
-/// Enters the folder of this name, and gives the program of its sources, where containers are this, or the line of their
-/// refusal.
+/// The same of sources.
+pub(crate) fn lowered_sources(
+    alloc: Global,
+    found: &AcceptedSources,
+    containers: Containers,
+) -> Result<FoundProgram, Memory>
+    requires { finding.AreKnown (map string_bytes found.now.names.items) found.now.units.items found.now.table }
+    ensures { IfOk result
+        (lowering.IsLoweredFrom containers (map string_bytes found.now.names.items) found.now.units.items) }
+{
+    let names = found.names.as_slice();
+    lowered(
+        alloc,
+        &found.table,
+        found.units.as_slice(),
+        names,
+        containers,
+    )
+}
+
+/// Enters the folder of this name, and gives the program of its sources, where containers are this, or the line of
+/// their refusal.
 pub fn folder_program<F: Folder>(
     alloc: Global,
     folder: &mut F,
@@ -93,7 +107,7 @@ pub fn folder_program<F: Folder>(
 {
     match sources(alloc, folder, name)? {
         FolderSources::Accepted(found) => {
-            let lowered = lowered(alloc, &found, containers);
+            let lowered = lowered_sources(alloc, &found, containers);
             let_go(found);
             Ok(lowered?)
         }

@@ -2,7 +2,7 @@
 use Rattle.std.proofs.Common.{◌≡◌, true, List, [], ◌∷◌, Some, None, map, codes, refl}
 use Rattle.clap.specs.Walk.{Rule, arg_by_id, arg_by_index}
 use Rattle.clap.specs.Simple.{Shape, built, filled, with_index, new_shape}
-use Rattle.racer_words.specs.Uses.{Label, Folder, Workers, Replay, Made, Json, Summaries, History, name_of}
+use Rattle.racer_words.specs.Uses.{Label, Folder, Workers, Replay, Made, Edits, Json, Summaries, History, name_of}
 use Rattle.racer_words.specs.Uses.{Containers}
 use Rattle.racer_words.specs.Uses.{labels}
 use Rattle.racer_words.specs.Command.{command, rule_of_label}
@@ -31,6 +31,7 @@ by_id Folder = refl
 by_id Workers = refl
 by_id Replay = refl
 by_id Made = refl
+by_id Edits = refl
 by_id Json = refl
 by_id Summaries = refl
 by_id History = refl

@@ -14,7 +14,7 @@ use Rattle.clap.specs.Walk.{finished, with_values, more_values}
 use Rattle.clap.specs.Faults.{walk_fault, default_fault, defaults_fault, check_fault, entered_fault, fault_of}
 use Rattle.clap.specs.Faults.{settle_fault}
 use Rattle.clap.specs.declared.parser.matches.ValueSource.TheVariants.{DefaultValue}
-use Rattle.racer_words.specs.Uses.{Word, Label, Folder, Workers, Replay, Made, Json, Summaries, History, name_of}
+use Rattle.racer_words.specs.Uses.{Word, Label, Folder, Workers, Replay, Made, Edits, Json, Summaries, History, name_of}
 use Rattle.racer_words.specs.Uses.{Containers}
 use Rattle.racer_words.specs.Uses.{takes_value}
 use Rattle.racer_words.specs.Uses.{Use, has, given, uses, differ, labels}
@@ -39,6 +39,7 @@ default_ok Folder rows = rw (or-true (has_row (codes "FOLDER") rows)) refl
 default_ok Workers rows = rw (or-true (has_row (codes "workers") rows)) refl
 default_ok Replay rows = rw (or-true (has_row (codes "replay") rows)) refl
 default_ok Made rows = rw (or-true (has_row (codes "made") rows)) refl
+default_ok Edits rows = rw (or-true (has_row (codes "edits") rows)) refl
 default_ok Json rows = by_flag (has_row (codes "json") rows) _ refl
 default_ok Summaries rows = by_flag (has_row (codes "summaries") rows) _ refl
 default_ok History rows = by_flag (has_row (codes "history") rows) _ refl
@@ -121,6 +122,7 @@ value_default Folder rows t = same_both (has_row (codes "FOLDER") rows) rows
 value_default Workers rows t = same_both (has_row (codes "workers") rows) rows
 value_default Replay rows t = same_both (has_row (codes "replay") rows) rows
 value_default Made rows t = same_both (has_row (codes "made") rows) rows
+value_default Edits rows t = same_both (has_row (codes "edits") rows) rows
 value_default Json rows t = absurd (cc t)
 value_default Summaries rows t = absurd (cc t)
 value_default History rows t = absurd (cc t)
@@ -139,6 +141,7 @@ flag_default Folder rows t = absurd (cc t)
 flag_default Workers rows t = absurd (cc t)
 flag_default Replay rows t = absurd (cc t)
 flag_default Made rows t = absurd (cc t)
+flag_default Edits rows t = absurd (cc t)
 flag_default Json rows t = flag_by Json rows (has_row (codes "json") rows) refl
 flag_default Summaries rows t = flag_by Summaries rows (has_row (codes "summaries") rows) refl
 flag_default History rows t = flag_by History rows (has_row (codes "history") rows) refl
@@ -185,15 +188,16 @@ abbrev with_all : List Label → List Row → List Row
 with_all ls rows = fold with_default rows (map built_rule ls)
 
 values_first : (l : Label) (rows : List Row)
-    → row_at l (with_all (Folder ∷ Workers ∷ Replay ∷ Made ∷ []) rows) ≡ row_at l rows
+    → row_at l (with_all (Folder ∷ Workers ∷ Replay ∷ Made ∷ Edits ∷ []) rows) ≡ row_at l rows
 values_first l rows =
-    value_at Made l (with_all (Folder ∷ Workers ∷ Replay ∷ []) rows) refl
+    value_at Edits l (with_all (Folder ∷ Workers ∷ Replay ∷ Made ∷ []) rows) refl
+    ∙ value_at Made l (with_all (Folder ∷ Workers ∷ Replay ∷ []) rows) refl
     ∙ value_at Replay l (with_all (Folder ∷ Workers ∷ []) rows) refl
     ∙ value_at Workers l (with_all (Folder ∷ []) rows) refl
     ∙ value_at Folder l rows refl
 
 abbrev behind_values : List Row → List Row
-behind_values = with_all (Folder ∷ Workers ∷ Replay ∷ Made ∷ [])
+behind_values = with_all (Folder ∷ Workers ∷ Replay ∷ Made ∷ Edits ∷ [])
 
 abbrev behind_json : List Row → List Row
 behind_json rows = with_default (behind_values rows) (built_rule Json)
@@ -222,6 +226,7 @@ no_flag Folder t = record { json = refl; summaries = refl; history = refl; conta
 no_flag Workers t = record { json = refl; summaries = refl; history = refl; containers = refl }
 no_flag Replay t = record { json = refl; summaries = refl; history = refl; containers = refl }
 no_flag Made t = record { json = refl; summaries = refl; history = refl; containers = refl }
+no_flag Edits t = record { json = refl; summaries = refl; history = refl; containers = refl }
 no_flag Json t = absurd (cc t)
 no_flag Summaries t = absurd (cc t)
 no_flag History t = absurd (cc t)
@@ -233,6 +238,7 @@ flag_all Folder rows t = absurd (cc t)
 flag_all Workers rows t = absurd (cc t)
 flag_all Replay rows t = absurd (cc t)
 flag_all Made rows t = absurd (cc t)
+flag_all Edits rows t = absurd (cc t)
 flag_all Json rows t =
     other_at Containers Json (behind_history rows) refl refl ∙ other_at History Json (behind_summaries rows) refl refl
     ∙ other_at Summaries Json (behind_json rows) refl refl
@@ -294,6 +300,7 @@ true_text Folder t = absurd (cc t)
 true_text Workers t = absurd (cc t)
 true_text Replay t = absurd (cc t)
 true_text Made t = absurd (cc t)
+true_text Edits t = absurd (cc t)
 true_text Json t = refl
 true_text Summaries t = refl
 true_text History t = refl
@@ -304,6 +311,7 @@ false_text Folder t = absurd (cc t)
 false_text Workers t = absurd (cc t)
 false_text Replay t = absurd (cc t)
 false_text Made t = absurd (cc t)
+false_text Edits t = absurd (cc t)
 false_text Json t = refl
 false_text Summaries t = refl
 false_text History t = refl

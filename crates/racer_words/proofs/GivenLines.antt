@@ -7,7 +7,7 @@ use Rattle.clap.specs.declared.error.kind.ErrorKind.{ErrorKind}
 use Rattle.clap.specs.Walk.{Row}
 use Rattle.clap.specs.Simple.{matches_of}
 use Rattle.clap.specs.Faults.{fault_of}
-use Rattle.racer_words.specs.Uses.{Word, Folder, Workers, Replay, Made, Json, Summaries, History, Line, Use}
+use Rattle.racer_words.specs.Uses.{Word, Folder, Workers, Replay, Made, Edits, Json, Summaries, History, Line, Use}
 use Rattle.racer_words.specs.Uses.{Containers}
 use Rattle.racer_words.specs.Uses.{line_of, line, read, has}
 use Rattle.racer_words.specs.Command.{command, fails}
@@ -19,15 +19,16 @@ pub among_fails : (k : ErrorKind) (ks : Kinds) → IsAmong k ks → fails ks ≡
 among_fails k [] h = absurd h
 among_fails k (x ∷ ks) h = refl
 
--- a line is its eight parts
+-- a line is its nine parts
 same_parts : (l m : Line) → l.folder ≡ m.folder → l.workers ≡ m.workers → l.replay ≡ m.replay → l.made ≡ m.made
-    → l.json ≡ m.json → l.summaries ≡ m.summaries → l.history ≡ m.history
+    → l.edits ≡ m.edits → l.json ≡ m.json → l.summaries ≡ m.summaries → l.history ≡ m.history
     → l.containers ≡ m.containers → l ≡ m
-same_parts l m a b c d e f g h =
+same_parts l m a b c d k e f g h =
     ap (λ x. record l { folder = x }) a
     ∙ ap (λ x. record l { folder = m.folder; workers = x }) b
     ∙ ap (λ x. record l { folder = m.folder; workers = m.workers; replay = x }) c
     ∙ ap (λ x. record l { folder = m.folder; workers = m.workers; replay = m.replay; made = x }) d
+    ∙ ap (λ x. record l { folder = m.folder; workers = m.workers; replay = m.replay; made = m.made; edits = x }) k
     ∙ ap (λ x. record m { json = x; summaries = l.summaries; history = l.history; containers = l.containers }) e
     ∙ ap (λ x. record m { summaries = x; history = l.history; containers = l.containers }) f
     ∙ ap (λ x. record m { history = x; containers = l.containers }) g
@@ -36,6 +37,7 @@ same_parts l m a b c d e f g h =
 same_line : (rows : List Row) (us : List Use) (l : Line) → Gives rows us → IsOf rows l → l ≡ line_of us
 same_line rows us l g is = same_parts l (line_of us) (is.folder ∙ g.words Folder refl)
     (is.workers ∙ g.words Workers refl) (is.replay ∙ g.words Replay refl) (is.made ∙ g.words Made refl)
+    (is.edits ∙ g.words Edits refl)
     (is.json (has Json us) (g.flags Json refl))
     (is.summaries (has Summaries us) (g.flags Summaries refl)) (is.history (has History us) (g.flags History refl))
     (is.containers (has Containers us) (g.flags Containers refl))

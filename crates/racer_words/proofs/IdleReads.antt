@@ -2,7 +2,7 @@
 use Rattle.std.proofs.Common.{◌≡◌, Bool, true, false, List, [], ◌∷◌, ◌++◌, Option, Some, None, map, codes, refl, ap}
 use Rattle.std.proofs.Common.{◌∙◌}
 use Rattle.clap.specs.Walk.{Row, Text, Held, Walk, idle, option, settled, reacted, used}
-use Rattle.racer_words.specs.Uses.{Word, Label, Folder, Workers, Replay, Made, Json, Summaries, History, name_of}
+use Rattle.racer_words.specs.Uses.{Word, Label, Folder, Workers, Replay, Made, Edits, Json, Summaries, History, name_of}
 use Rattle.racer_words.specs.Uses.{Containers}
 use Rattle.racer_words.specs.Uses.{takes_value}
 use Rattle.racer_words.specs.Uses.{label_of, Use, one, has, uses, put, valued}
@@ -36,6 +36,7 @@ id_is Folder = refl
 id_is Workers = refl
 id_is Replay = refl
 id_is Made = refl
+id_is Edits = refl
 id_is Json = refl
 id_is Summaries = refl
 id_is History = refl

@@ -8,7 +8,7 @@ use Rattle.clap.specs.Walk.{values_or_missing}
 use Rattle.clap.specs.Faults.{use_fault}
 use Rattle.clap.specs.declared.builder.value_parser.Reading.{Reading}
 use Rattle.clap.specs.declared.parser.matches.ValueSource.TheVariants.{CommandLine}
-use Rattle.racer_words.specs.Uses.{Word, Label, Folder, Workers, Replay, Made, Json, Summaries, History, name_of}
+use Rattle.racer_words.specs.Uses.{Word, Label, Folder, Workers, Replay, Made, Edits, Json, Summaries, History, name_of}
 use Rattle.racer_words.specs.Uses.{Containers}
 use Rattle.racer_words.specs.Uses.{takes_value, Use, one, has}
 use Rattle.racer_words.specs.Command.{fails}
@@ -72,6 +72,7 @@ set_as Folder values rows = refl
 set_as Workers values rows = refl
 set_as Replay values rows = refl
 set_as Made values rows = refl
+set_as Edits values rows = refl
 set_as Json values rows = refl
 set_as Summaries values rows = refl
 set_as History values rows = refl
@@ -93,6 +94,7 @@ fits Folder word = refl
 fits Workers word = refl
 fits Replay word = refl
 fits Made word = refl
+fits Edits word = refl
 fits Json word = refl
 fits Summaries word = refl
 fits History word = refl
@@ -104,6 +106,7 @@ first_use Folder word rows e = rw e refl
 first_use Workers word rows e = rw e refl
 first_use Replay word rows e = rw e refl
 first_use Made word rows e = rw e refl
+first_use Edits word rows e = rw e refl
 first_use Json word rows e = rw e refl
 first_use Summaries word rows e = rw e refl
 first_use History word rows e = rw e refl
@@ -115,6 +118,7 @@ second_use Folder word rows e = rw e refl
 second_use Workers word rows e = rw e refl
 second_use Replay word rows e = rw e refl
 second_use Made word rows e = rw e refl
+second_use Edits word rows e = rw e refl
 second_use Json word rows e = rw e refl
 second_use Summaries word rows e = rw e refl
 second_use History word rows e = rw e refl
@@ -127,6 +131,7 @@ no_value Folder rows e = refl
 no_value Workers rows e = refl
 no_value Replay rows e = refl
 no_value Made rows e = refl
+no_value Edits rows e = refl
 no_value Json rows e = absurd (cc e)
 no_value Summaries rows e = absurd (cc e)
 no_value History rows e = absurd (cc e)

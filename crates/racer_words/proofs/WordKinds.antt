@@ -6,7 +6,7 @@ use Rattle.std.proofs.lemmas.Bool.{eqb-true}
 use Rattle.std.proofs.Math.Bool.{or-false}
 use Rattle.clap.specs.Lexer.{long_of, short_of}
 use Rattle.clap.specs.Walk.{Rule, arg_by_long, has_long}
-use Rattle.racer_words.specs.Uses.{Word, Label, Folder, Workers, Replay, Made, Json, Summaries, History, name_of}
+use Rattle.racer_words.specs.Uses.{Word, Label, Folder, Workers, Replay, Made, Edits, Json, Summaries, History, name_of}
 use Rattle.racer_words.specs.Uses.{Containers}
 use Rattle.racer_words.specs.Uses.{label_of, long_name, is_plain}
 use Rattle.racer_words.specs.Readings.{IsText}
@@ -100,32 +100,35 @@ by_long name =
     chosen _ _ Workers _ _ (or-false (bytes_eq (codes "workers") name))
     (chosen _ _ Replay _ _ (or-false (bytes_eq (codes "replay") name))
     (chosen _ _ Made _ _ (or-false (bytes_eq (codes "made") name))
+    (chosen _ _ Edits _ _ (or-false (bytes_eq (codes "edits") name))
     (chosen _ _ Json _ _ (or-false (bytes_eq (codes "json") name))
     (chosen _ _ Summaries _ _ (or-false (bytes_eq (codes "summaries") name))
     (chosen _ _ History _ _ (or-false (bytes_eq (codes "history") name))
-    (chosen _ _ Containers _ _ (or-false (bytes_eq (codes "containers") name)) refl))))))
+    (chosen _ _ Containers _ _ (or-false (bytes_eq (codes "containers") name)) refl)))))))
 
 -- no name is that of the folder
-folder_last : (a b c d e f g : Bool) → cond a (Some Workers) (cond b (Some Replay) (cond c (Some Made) (cond d (Some Json)
-    (cond e (Some Summaries) (cond f (Some History)
-    (cond g (Some Containers) None)))))) ≡ Some Folder → ⊥
-folder_last true b c d e f g h = absurd (cc h)
-folder_last false true c d e f g h = absurd (cc h)
-folder_last false false true d e f g h = absurd (cc h)
-folder_last false false false true e f g h = absurd (cc h)
-folder_last false false false false true f g h = absurd (cc h)
-folder_last false false false false false true g h = absurd (cc h)
-folder_last false false false false false false true h = absurd (cc h)
-folder_last false false false false false false false h = absurd (cc h)
+folder_last : (a b c d e f g h : Bool) → cond a (Some Workers) (cond b (Some Replay) (cond c (Some Made) (cond d (Some Edits)
+    (cond e (Some Json) (cond f (Some Summaries) (cond g (Some History)
+    (cond h (Some Containers) None))))))) ≡ Some Folder → ⊥
+folder_last true b c d e f g h k = absurd (cc k)
+folder_last false true c d e f g h k = absurd (cc k)
+folder_last false false true d e f g h k = absurd (cc k)
+folder_last false false false true e f g h k = absurd (cc k)
+folder_last false false false false true f g h k = absurd (cc k)
+folder_last false false false false false true g h k = absurd (cc k)
+folder_last false false false false false false true h k = absurd (cc k)
+folder_last false false false false false false false true k = absurd (cc k)
+folder_last false false false false false false false false k = absurd (cc k)
 
 abbrev pub IsOther : Label → Type 0
 IsOther l = bytes_eq (name_of l) (codes "FOLDER") ≡ false
 
 pub other : (name : Word) (l : Label) → label_of name ≡ Some l → IsOther l
-other name Folder e = absurd (folder_last _ _ _ _ _ _ _ e)
+other name Folder e = absurd (folder_last _ _ _ _ _ _ _ _ e)
 other name Workers e = refl
 other name Replay e = refl
 other name Made e = refl
+other name Edits e = refl
 other name Json e = refl
 other name Summaries e = refl
 other name History e = refl

@@ -8,7 +8,7 @@ use Rattle.clap.specs.Walk.{takes_values}
 use Rattle.clap.specs.Walk.{subcommand_met, positional}
 use Rattle.clap.specs.Faults.{settle_fault, react_fault, turn_fault, flags_fault}
 use Rattle.clap.specs.Kinds.{Kinds}
-use Rattle.racer_words.specs.Uses.{Word, Label, Folder, Workers, Replay, Made, Json, Summaries, History, name_of}
+use Rattle.racer_words.specs.Uses.{Word, Label, Folder, Workers, Replay, Made, Edits, Json, Summaries, History, name_of}
 use Rattle.racer_words.specs.Uses.{Containers}
 use Rattle.racer_words.specs.Uses.{takes_value, label_of}
 use Rattle.racer_words.proofs.BuiltRules.{built_rule, all, shape}
@@ -81,6 +81,7 @@ takes Folder = refl
 takes Workers = refl
 takes Replay = refl
 takes Made = refl
+takes Edits = refl
 takes Json = refl
 takes Summaries = refl
 takes History = refl
@@ -154,6 +155,7 @@ value_walk Folder word q rows is t = rw (is.open_ended, is.long, is.short) refl
 value_walk Workers word q rows is t = rw (is.open_ended, is.long, is.short) refl
 value_walk Replay word q rows is t = rw (is.open_ended, is.long, is.short) refl
 value_walk Made word q rows is t = rw (is.open_ended, is.long, is.short) refl
+value_walk Edits word q rows is t = rw (is.open_ended, is.long, is.short) refl
 value_walk Json word q rows is t = absurd (cc t)
 value_walk Summaries word q rows is t = absurd (cc t)
 value_walk History word q rows is t = absurd (cc t)

@@ -7,7 +7,7 @@ use Rattle.clap.specs.declared.builder.arg.Arg.{Arg}
 use Rattle.clap.specs.declared.builder.action.ArgAction.{ArgAction}
 use Rattle.clap.specs.declared.builder.action.ArgAction.TheVariants.{Set, SetTrue}
 use Rattle.racer_words.specs.Uses.{Word, Label, Folder, Workers, Replay, Made, Json, Summaries, History}
-use Rattle.racer_words.specs.Uses.{Containers}
+use Rattle.racer_words.specs.Uses.{Containers, Edits}
 use Rattle.racer_words.specs.Uses.{labels}
 
 abbrev pub folder_rule : Rule
@@ -40,6 +40,7 @@ rule_of_label Folder = folder_rule
 rule_of_label Workers = option_rule (codes "workers")
 rule_of_label Replay = option_rule (codes "replay")
 rule_of_label Made = option_rule (codes "made")
+rule_of_label Edits = option_rule (codes "edits")
 rule_of_label Json = flag_rule (codes "json")
 rule_of_label Summaries = flag_rule (codes "summaries")
 rule_of_label History = flag_rule (codes "history")

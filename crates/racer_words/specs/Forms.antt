@@ -10,6 +10,7 @@ abbrev pub form_view : Form → words.Form
 form_view form.Report = words.ForReport
 form_view form.Replay = words.ForReplay
 form_view form.Made = words.ForMade
+form_view form.Edits = words.ForEdits
 
 abbrev pub label_view : Label → uses.Label
 label_view label.Folder = uses.Folder
@@ -20,3 +21,4 @@ label_view label.Json = uses.Json
 label_view label.Summaries = uses.Summaries
 label_view label.History = uses.History
 label_view label.Containers = uses.Containers
+label_view label.Edits = uses.Edits

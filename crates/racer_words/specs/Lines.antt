@@ -10,6 +10,7 @@ line_view l = record {
   workers = option_map (λ s. s.now) l.workers;
   replay = option_map (λ s. s.now) l.replay;
   made = option_map (λ s. s.now) l.made;
+  edits = option_map (λ s. s.now) l.edits;
   json = l.json;
   summaries = l.summaries;
   history = l.history;
@@ -25,6 +26,7 @@ pub record IsOf (rows : List Row) (l : Line) : Type 0 where
   pub workers : l.workers ≡ first_of (codes "workers") rows
   pub replay : l.replay ≡ first_of (codes "replay") rows
   pub made : l.made ≡ first_of (codes "made") rows
+  pub edits : l.edits ≡ first_of (codes "edits") rows
   pub json : (b : Bool) → one_of (codes "json") rows ≡ Some (flag_text b) → l.json ≡ b
   pub summaries : (b : Bool) → one_of (codes "summaries") rows ≡ Some (flag_text b) → l.summaries ≡ b
   pub history : (b : Bool) → one_of (codes "history") rows ≡ Some (flag_text b) → l.history ≡ b

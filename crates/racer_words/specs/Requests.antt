@@ -4,6 +4,7 @@ use Rattle.racer_words.specs.declared.request.Request.TheVariants as request
 use Rattle.racer_words.specs.declared.request.WantedReport.{WantedReport}
 use Rattle.racer_words.specs.declared.request.WantedReplay.{WantedReplay}
 use Rattle.racer_words.specs.declared.request.WantedMade.{WantedMade}
+use Rattle.racer_words.specs.declared.request.WantedEdits.{WantedEdits}
 use Rattle.racer_words.specs.Words as words
 
 -- what is seen of a wanted report
@@ -24,7 +25,11 @@ replay_of wanted =
 abbrev pub made_of : WantedMade → words.WantedMade
 made_of wanted = record { number = wanted.number; workers = wanted.workers }
 
+abbrev pub edits_of : WantedEdits → words.WantedEdits
+edits_of wanted = record { folder = wanted.folder; edits = wanted.edits }
+
 abbrev pub seen : Request → words.Request
 seen (request.ReportOn wanted) = words.ReportOn (wanted_of wanted)
 seen (request.ReplayOf wanted) = words.ReplayOf (replay_of wanted)
 seen (request.MadeOf wanted) = words.MadeOf (made_of wanted)
+seen (request.EditsOf wanted) = words.EditsOf (edits_of wanted)

@@ -17,6 +17,7 @@ pub data Label : Type 0 where
   Summaries : Label
   History : Label
   Containers : Label
+  Edits : Label
 
 abbrev pub name_of : Label → Word
 name_of Folder = codes "FOLDER"
@@ -27,6 +28,7 @@ name_of Json = codes "json"
 name_of Summaries = codes "summaries"
 name_of History = codes "history"
 name_of Containers = codes "containers"
+name_of Edits = codes "edits"
 
 abbrev pub takes_value : Label → Bool
 takes_value Json = false
@@ -37,7 +39,7 @@ takes_value _ = true
 
 -- all that have a name
 abbrev pub labels : List Label
-labels = Workers ∷ Replay ∷ Made ∷ Json ∷ Summaries ∷ History ∷ Containers ∷ []
+labels = Workers ∷ Replay ∷ Made ∷ Edits ∷ Json ∷ Summaries ∷ History ∷ Containers ∷ []
 
 abbrev pub label_of : Word → Option Label
 label_of name = find (λ l. bytes_eq (name_of l) name) labels
@@ -120,6 +122,7 @@ pub record Line : Type 0 where
   pub workers : Option Word
   pub replay : Option Word
   pub made : Option Word
+  pub edits : Option Word
   pub json : Bool
   pub summaries : Bool
   pub history : Bool
@@ -131,6 +134,7 @@ line_of us = record {
   workers = given Workers us;
   replay = given Replay us;
   made = given Made us;
+  edits = given Edits us;
   json = has Json us;
   summaries = has Summaries us;
   history = has History us;

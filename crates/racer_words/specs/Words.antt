@@ -9,7 +9,7 @@ use Rattle.race_report_modes.specs.declared.Format.TheVariants.{Text, Json as As
 use Rattle.race_report_modes.specs.declared.Mode.{Mode}
 use Rattle.racer_words_numbers.specs.Numbers.{up_to, workers_of}
 use Rattle.racer_words.specs.Uses.{Word, Line, Label, Folder, Workers, Json, Summaries, History, labels, name_of, line}
-use Rattle.racer_words.specs.Uses.{Replay as LabelReplay, Made as LabelMade, Containers as LabelContainers}
+use Rattle.racer_words.specs.Uses.{Replay as LabelReplay, Made as LabelMade, Containers as LabelContainers, Edits as LabelEdits}
 
 -- a report on the folder of this name, by so many workers, with their history or without, where containers are this
 pub record WantedReport : Type 0 where
@@ -30,10 +30,16 @@ pub record WantedMade : Type 0 where
   pub number : ℕ
   pub workers : ℕ
 
+-- the edits in this file of the folder of this name, one after the other
+pub record WantedEdits : Type 0 where
+  pub folder : Word
+  pub edits : Word
+
 pub data Request : Type 0 where
   ReportOn : WantedReport → Request
   ReplayOf : WantedReplay → Request
   MadeOf : WantedMade → Request
+  EditsOf : WantedEdits → Request
 
 -- a name of a folder or a file
 abbrev pub is_name : Word → Bool
@@ -41,21 +47,25 @@ is_name word = not (bytes_eq word []) && not (bytes_eq word (codes "-"))
 
 -- ---- what may stand beside what
 
--- a command line asks for a report, for the replay of a witness, or for a made folder
+-- a command line asks for a report, for the replay of a witness, for a made folder, or for a session of edits
 pub data Form : Type 0 where
   ForReport : Form
   ForReplay : Form
   ForMade : Form
+  ForEdits : Form
 
 -- the table: what may stand on a command line of each form
 abbrev pub stands_on : Form → List Label
 stands_on ForReport = Folder ∷ Workers ∷ Json ∷ Summaries ∷ History ∷ LabelContainers ∷ []
 stands_on ForReplay = Folder ∷ LabelReplay ∷ LabelContainers ∷ []
 stands_on ForMade = LabelMade ∷ Workers ∷ []
+stands_on ForEdits = Folder ∷ LabelEdits ∷ []
 
 -- the form of a line, by the option that stands there for it
 abbrev pub form_of : Line → Form
-form_of line = if is_some line.made then ForMade else if is_some line.replay then ForReplay else ForReport
+form_of line =
+    if is_some line.made then ForMade else if is_some line.replay then ForReplay
+    else if is_some line.edits then ForEdits else ForReport
 
 abbrev pub is_given : Line → Label → Bool
 is_given line Folder = is_some line.folder
@@ -66,6 +76,7 @@ is_given line Json = line.json
 is_given line Summaries = line.summaries
 is_given line History = line.history
 is_given line LabelContainers = line.containers
+is_given line LabelEdits = is_some line.edits
 
 abbrev pub may_stand : Form → Label → Bool
 may_stand form label = list_any (λ l. bytes_eq (name_of l) (name_of label)) (stands_on form)
@@ -116,6 +127,11 @@ made_by number workers = MadeOf (record { number = number; workers = workers })
 abbrev pub made : Line → Word → Option Request
 made line count = option_and_then (λ n. option_map (made_by n) (workers_of line.workers)) (up_to 800 count)
 
+-- the edits in a file of the folder
+abbrev pub edits : Word → Word → Option Request
+edits folder file =
+    if is_name folder && is_name file then Some (EditsOf (record { folder = folder; edits = file })) else None
+
 -- what a line of this form asks for
 abbrev pub asked_as : Form → Line → Option Request
 asked_as ForReport line = option_and_then (report line) line.folder
@@ -123,6 +139,7 @@ asked_as ForReplay line =
     option_and_then (λ folder. option_and_then (replay (containers_of line.containers) folder) line.replay)
     line.folder
 asked_as ForMade line = option_and_then (made line) line.made
+asked_as ForEdits line = option_and_then (λ folder. option_and_then (edits folder) line.edits) line.folder
 
 abbrev pub asked_by : Line → Option Request
 asked_by line = if stands_right line then asked_as (form_of line) line else None

@@ -12,7 +12,7 @@ use racer_base::Memory;
 use std::alloc::Global;
 
 /// The options with a value.
-const OPTIONS: &[&str] = &["workers", "replay", "made"];
+const OPTIONS: &[&str] = &["workers", "replay", "made", "edits"];
 
 /// The flags.
 const FLAGS: &[&str] = &["json", "summaries", "history", "containers"];
@@ -33,7 +33,7 @@ fn push_named<'a>(
     Ok(())
 }
 
-/// Puts an optional folder, three options with a value and four flags behind the arguments that there are.
+/// Puts an optional folder, four options with a value and four flags behind the arguments that there are.
 fn push_arguments<'a>(alloc: Global, arguments: &mut Vec<Arg<'a>>) -> Result<(), Memory>
     ensures { OnOk result (spec.rules_of arguments.new.items ≡ spec.with_all (spec.rules_of arguments.old.items)) }
 {

@@ -7,12 +7,13 @@ ghost use Rattle.racer_words.specs.Words.{form_of, is_given, is_right, may_stand
 
 use crate::line::GivenLine;
 
-/// What a command line asks for: a report, the replay of a witness, or a made folder.
+/// What a command line asks for: a report, the replay of a witness, a made folder, or a session of edits.
 #[derive(Clone, Copy)]
 pub enum Form {
     Report,
     Replay,
     Made,
+    Edits,
 }
 
 /// What can stand on a command line.
@@ -26,6 +27,7 @@ pub enum Label {
     Summaries,
     History,
     Containers,
+    Edits,
 }
 
 /// All of them.
@@ -34,6 +36,7 @@ const LABELS: &[Label] = &[
     Label::Workers,
     Label::Replay,
     Label::Made,
+    Label::Edits,
     Label::Json,
     Label::Summaries,
     Label::History,
@@ -44,10 +47,11 @@ const LABELS: &[Label] = &[
 pub fn form_of(line: &GivenLine<'_>) -> Form
     ensures { form_view result ≡ form_of (line_view line.now) }
 {
-    match (line.made, line.replay) {
-        (Some(_), _) => Form::Made,
-        (None, Some(_)) => Form::Replay,
-        (None, None) => Form::Report,
+    match (line.made, line.replay, line.edits) {
+        (Some(_), _, _) => Form::Made,
+        (None, Some(_), _) => Form::Replay,
+        (None, None, Some(_)) => Form::Edits,
+        (None, None, None) => Form::Report,
     }
 }
 
@@ -63,6 +67,7 @@ fn is_given(line: &GivenLine<'_>, label: Label) -> bool
         Label::Summaries => line.summaries,
         Label::History => line.history,
         Label::Containers => line.containers,
+        Label::Edits => line.edits.is_some(),
     }
 }
 
@@ -71,9 +76,10 @@ fn may_stand(form: Form, label: Label) -> bool
     ensures { result ≡ may_stand (form_view form) (label_view label) }
 {
     match form {
-        Form::Report => !matches!(label, Label::Replay | Label::Made),
+        Form::Report => !matches!(label, Label::Replay | Label::Made | Label::Edits),
         Form::Replay => matches!(label, Label::Folder | Label::Replay | Label::Containers),
         Form::Made => matches!(label, Label::Made | Label::Workers),
+        Form::Edits => matches!(label, Label::Folder | Label::Edits),
     }
 }
 

@@ -13,4 +13,4 @@ mod read;
 mod request;
 
 pub use read::read_words;
-pub use request::{Request, WantedMade, WantedReplay, WantedReport};
+pub use request::{Request, WantedEdits, WantedMade, WantedReplay, WantedReport};

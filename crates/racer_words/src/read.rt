@@ -3,11 +3,11 @@ ghost use Rattle.std.specs.Prelude.{◌≡◌, map, string_bytes, option_map, If
 ghost use Rattle.racer_words.specs.Lines.{line_view};
 ghost use Rattle.racer_words.specs.Requests.{seen};
 ghost use Rattle.racer_words.specs.Forms.{form_view};
-ghost use Rattle.racer_words.specs.Words.{asked_as, asked_by, is_name, report, replay, made, request_of};
+ghost use Rattle.racer_words.specs.Words.{asked_as, asked_by, edits, is_name, made, replay, report, request_of};
 
 use crate::forms::{Form, form_of, stands_right};
 use crate::line::{GivenLine, given_line};
-use crate::request::{Request, WantedMade, WantedReplay, WantedReport};
+use crate::request::{Request, WantedEdits, WantedMade, WantedReplay, WantedReport};
 use container_cells::Containers;
 use racer_base::{Memory, Text};
 use racer_words_numbers::{made_of, workers_of};
@@ -68,16 +68,29 @@ fn made(count: &str, line: &GivenLine<'_>) -> Option<Request>
     Some(Request::MadeOf(WantedMade { number, workers }))
 }
 
+/// The edits in a file of the folder.
+fn edits(alloc: Global, folder: &str, file: &str) -> Result<Option<Request>, Memory>
+    ensures { IfOk result (λ r. option_map seen r ≡ edits folder.now file.now) }
+{
+    if !is_name(folder) || !is_name(file) {
+        return Ok(None);
+    }
+    let folder = Text::from_str(alloc, folder)?;
+    let edits = Text::from_str(alloc, file)?;
+    Ok(Some(Request::EditsOf(WantedEdits { folder, edits })))
+}
+
 /// What a line of this form asks for.
 fn asked_as(alloc: Global, form: Form, line: &GivenLine<'_>) -> Result<Option<Request>, Memory>
     ensures { IfOk result (λ r. option_map seen r ≡ asked_as (form_view form) (line_view line.now)) }
 {
-    match (form, line.folder, line.replay, line.made) {
-        (Form::Report, Some(folder), _, _) => report(alloc, folder, line),
-        (Form::Replay, Some(folder), Some(witness), _) => {
+    match (form, line.folder, line.replay, line.made, line.edits) {
+        (Form::Report, Some(folder), _, _, _) => report(alloc, folder, line),
+        (Form::Replay, Some(folder), Some(witness), _, _) => {
             replay(alloc, folder, witness, line.containers())
         }
-        (Form::Made, _, _, Some(count)) => Ok(made(count, line)),
+        (Form::Made, _, _, Some(count), _) => Ok(made(count, line)),
+        (Form::Edits, Some(folder), _, _, Some(file)) => edits(alloc, folder, file),
         _ => Ok(None),
     }
 }
@@ -94,8 +107,8 @@ fn asked_by(alloc: Global, line: &GivenLine<'_>) -> Result<Option<Request>, Memo
 
 /// What the words behind the program's name ask for, or nothing where they are no command line: `FOLDER`, with
 /// `--workers N`, `--json`, `--summaries`, `--history`, `--containers` in any order; `FOLDER --replay NAME`, with
-/// `--containers`; or `--made N`, with `--workers N`. A value may also stand behind `=`, and behind `--` a word that
-/// begins with a minus sign is a folder.
+/// `--containers`; `--made N`, with `--workers N`; or `FOLDER --edits NAME` alone. A value may also stand behind `=`, and
+/// behind `--` a word that begins with a minus sign is a folder.
 pub fn read_words(alloc: Global, words: &[String]) -> Result<Option<Request>, Memory>
     ensures { IfOk result (λ r. option_map seen r ≡ request_of (map string_bytes words.now)) }
 {

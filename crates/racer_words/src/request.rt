@@ -11,6 +11,7 @@ pub enum Request {
     ReportOn(WantedReport),
     ReplayOf(WantedReplay),
     MadeOf(WantedMade),
+    EditsOf(WantedEdits),
 }
 
 /// A report on the folder of this name, by 1 to 64 workers, with their history or without, where containers are this.
@@ -39,4 +40,11 @@ pub struct WantedMade {
     pub workers: u32,
     pub ghost most: { number ≤ 800 },
     pub ghost in_range: { (0 < workers) × (workers ≤ 64) },
+}
+
+/// A session of edits: the folder, and the name of the file in it that has them.
+#[derive(Drop)]
+pub struct WantedEdits {
+    pub folder: Text,
+    pub edits: Text,
 }

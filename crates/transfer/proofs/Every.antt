@@ -31,7 +31,7 @@ use Rattle.transfer.proofs.Handed.{found_at}
 
 -- ---- the table
 
-set_get : {X : Type 0} (xs : List X) (i j : ℕ) (x : X) →
+pub set_get : {X : Type 0} (xs : List X) (i j : ℕ) (x : X) →
     (slice_get (slice_set xs i x) j ≡ slice_get xs j) ⊎ ((j ≡ i) × (slice_get (slice_set xs i x) j ≡ Some x))
 set_get [] i j x = inl refl
 set_get (y ∷ xs) zero zero x = inr (refl, refl)

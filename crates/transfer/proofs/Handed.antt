@@ -1,10 +1,9 @@
 -- The outcomes of methods that are handed in.
 use Rattle.std.proofs.Common.{◌≡◌, ℕ, zero, suc, ◌<◌, Bool, true, false, cond, ◌||◌}
 use Rattle.std.proofs.Common.{List, [], ◌∷◌, ◌++◌, Option, None, Some}
-use Rattle.std.proofs.Common.{refl, sym, ap, ◌∙◌, option_map, nat_eq, nat_lt, is_some, is_none}
+use Rattle.std.proofs.Common.{refl, sym, ap, ◌∙◌, option_map, nat_eq, is_some, is_none}
 use Rattle.std.proofs.Common.{All, slice_get, get_or, map, length}
 use Rattle.std.proofs.Common.{arith}
-use Rattle.std.proofs.Math.Nat.{zero-add}
 use Rattle.std.proofs.lemmas.Bool.{ltb-true, and_parts}
 use Rattle.std.proofs.lemmas.List.Elements.{All-head, All-tail}
 use Rattle.std.specs.Arc.{arc_value}
@@ -12,7 +11,7 @@ use Rattle.std.specs.List.{list_any, list_all}
 use Rattle.std.specs.Option.{option_or, option_and_then}
 use Rattle.racer_base.specs.declared.ids.MethodId.{MethodId}
 use Rattle.core_code.specs.Calls.{rank_of, method_at, calls_in, calls_of}
-use Rattle.core_code.specs.CallFacts.{is_above, has_ranks}
+use Rattle.core_code.specs.CallFacts.{has_ranks}
 use Rattle.core_code.specs.declared.parts.MethodCore.{MethodCore}
 use Rattle.core_code.specs.Core.{Core, Method, method_of}
 use Rattle.core_code.proofs.ByRank.{known_below-lower}
@@ -26,8 +25,7 @@ use Rattle.transfer.specs.Callees.{SharedFinished, AreCallees, outcome_in}
 use Rattle.transfer_steps.specs.Known.{known_in, callee_outcome, table_of}
 use Rattle.transfer_steps.proofs.Callees.{held}
 use Rattle.core_code.proofs.RowCallees.{is_method, nat_eq-same, analysed_at}
-use Rattle.core_code.proofs.KindLemmas.{where_analysed}
-use Rattle.core_code.proofs.NoCycles.{numbered}
+use Rattle.transfer.proofs.LowerCalls.{calls_lower, is_lower}
 use Rattle.transfer.proofs.Tables.{outcome-agree}
 
 -- ---- one more
@@ -112,14 +110,8 @@ callee_below : (program : Core) (m n : MethodId) (method : Method) → has_ranks
     method_at program m ≡ Some method → is_none method.status ≡ true →
     list_any (is_method n) (calls_in method.code) ≡ true → rank_of program n < rank_of program m
 callee_below program m n method ranks is analysed there =
-    let test : MethodId → Bool = λ k. nat_lt (rank_of program k) (rank_of program m) in
-    let above : (is_some method.status || list_all test (calls_in method.code)) ≡ true =
-    ap (λ (n : ℕ). is_above (rank_of program) (n, method)) (sym (zero-add m.0))
-    ∙ numbered (is_above (rank_of program)) 0 m.0 program.methods method ranks is in
     ltb-true (rank_of program n) (rank_of program m)
-    (all_any test n (calls_in method.code)
-    (where_analysed method.status (list_all test (calls_in method.code)) analysed above)
-    there)
+    (all_any (is_lower program m) n (calls_in method.code) (calls_lower program m method ranks is analysed) there)
 
 pub outcome-known : (program : Core) (m : MethodId) (method : Method) (callees : List Callee)
     (finished : List SharedFinished) →

@@ -19,3 +19,16 @@ pub mod Handed
 pub mod Every
 pub mod Movable
 pub mod Lowered
+pub mod Renumbering
+pub mod RenumberedCalls
+pub mod RenumberedParts
+pub mod RenumberedSteps
+pub mod RenumberedFlow
+pub mod OneToOne
+pub mod PartnerNumbers
+pub mod TiedOutcomes
+pub mod NumberedOutcomes
+pub mod TiedContexts
+pub mod LowerCalls
+pub mod TiedMethods
+pub mod RenumberedOutcomes

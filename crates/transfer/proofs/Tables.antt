@@ -41,10 +41,10 @@ use Rattle.transfer_steps.proofs.Adding.{Agree, Alike, same_members}
 alike-itself : (e : Effects) → Alike e e
 alike-itself e = record { records = refl; wobbly = refl; result = refl; large = refl }
 
-agree-itself : (e : Effects) → Agree e e
+pub agree-itself : (e : Effects) → Agree e e
 agree-itself e = record { next = refl; alike = alike-itself e }
 
-append-same_set : (xs ys ps qs : List Path) → set.from_list {R = path_cmp} xs ≡ set.from_list ps →
+pub append-same_set : (xs ys ps qs : List Path) → set.from_list {R = path_cmp} xs ≡ set.from_list ps →
     set.from_list {R = path_cmp} ys ≡ set.from_list qs →
     set.from_list {R = path_cmp} (xs ++ ys) ≡ set.from_list (ps ++ qs)
 append-same_set xs ys ps qs e f =
@@ -57,7 +57,7 @@ append-same_set xs ys ps qs e f =
 
 -- ---- parts of code
 
-both-agree : (e f r q : Effects) → Agree e f → Agree r q → Agree (both e r) (both f q)
+pub both-agree : (e f r q : Effects) → Agree e f → Agree r q → Agree (both e r) (both f q)
 both-agree e f r q a b =
     record {
       next = b.next;
@@ -72,7 +72,7 @@ both-agree e f r q a b =
       };
     }
 
-chosen-agree : (e f r q : Effects) → Agree e f → Agree r q → Agree (chosen e r) (chosen f q)
+pub chosen-agree : (e f r q : Effects) → Agree e f → Agree r q → Agree (chosen e r) (chosen f q)
 chosen-agree e f r q a b =
     record {
       next = λ i. joined_next (a.next i) (b.next i);
@@ -91,7 +91,7 @@ chosen-agree e f r q a b =
       };
     }
 
-abbrev after_at : Option State → Effects → (State → Effects) → Effects
+abbrev pub after_at : Option State → Effects → (State → Effects) → Effects
 after_at o e r = elim o as (λ _. Effects) [ None ↦ e | Some s ↦ both e (r s) ]
 
 after_at-agree : (o : Option State) (e f : Effects) (r q : State → Effects) → Agree e f →
@@ -105,7 +105,7 @@ after-agree e f r q a b =
     subst (λ (o : Option State). Agree (after_at e.next e r) (after_at o f q)) a.next
     (after_at-agree e.next e f r q a b)
 
-abbrev rounds_at : Option State → (State → Effects) → ℕ → State → State × List Path
+abbrev pub rounds_at : Option State → (State → Effects) → ℕ → State → State × List Path
 rounds_at o body n s =
     elim o as (λ _. State × List Path) [
       | None ↦ rounds body n s
@@ -174,7 +174,7 @@ found-agree core t u main locked site actuals f h s n same =
       };
     }
 
-known-agree : (core : Core) (t u : Table) (main locked : Bool) (site : SiteId) (m : MethodId) (n : ℕ) (s : State)
+pub known-agree : (core : Core) (t u : Table) (main locked : Bool) (site : SiteId) (m : MethodId) (n : ℕ) (s : State)
     (o p : Option Known) → option_map outcome_from o ≡ option_map outcome_from p →
     Agree (call_effects (given_of core t main) locked site m n s o)
     (call_effects (given_of core u main) locked site m n s p)

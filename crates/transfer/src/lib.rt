@@ -17,6 +17,7 @@
 #![tactic(auto)]
 
 mod analysis;
+mod carrying;
 mod finished;
 pub mod laws;
 mod lifting;
@@ -28,5 +29,6 @@ mod walk;
 mod whole;
 
 pub use analysis::analyse;
+pub use carrying::carried;
 pub use finished::Finished;
 pub use whole::outcomes;

@@ -1,7 +1,7 @@
 use Rattle.std.proofs.Common.{ℕ, ap, ◌∙◌}
 use Rattle.std.specs.Prelude.{bytes_eq, ◌&&◌}
 use Rattle.java_resolver.specs.declared.infos.MethodInfo.{MethodInfo}
-use Rattle.java_resolver_parts.specs.Numbers.{key_eq}
+use Rattle.keyed_numbers.specs.Numbers.{key_eq}
 use Rattle.java_resolver.specs.Indexes.{method_at}
 use Rattle.java_resolver.proofs.FirstOnes.{finds_next, element_added}
 use Rattle.java_resolver.proofs.methods.method_numbers.Goals as goal

@@ -1,7 +1,7 @@
 use Rattle.std.proofs.Common.{sym, ap, ◌∙◌, is_some}
 use Rattle.std.specs.Prelude.{List, ℕ}
 use Rattle.std.proofs.lemmas.Result.{on_ok_weaker}
-use Rattle.java_resolver_parts.specs.Numbers.{number_at}
+use Rattle.keyed_numbers.specs.Numbers.{number_at}
 use Rattle.java_resolver.proofs.SecondOnes.{first_added, second_added}
 use Rattle.java_resolver.proofs.with_any.add_behind.Goals as goal
 

@@ -1,7 +1,7 @@
 use Rattle.std.proofs.Common.{sym, ap}
 use Rattle.std.specs.Prelude.{Bool, bytes_eq, ◌&&◌}
 use Rattle.std.proofs.lemmas.Result.{on_ok_weaker}
-use Rattle.java_resolver_parts.specs.Numbers.{Key, key_eq}
+use Rattle.keyed_numbers.specs.Numbers.{Key, key_eq}
 use Rattle.java_resolver.specs.Indexes.{method_with_any_at}
 use Rattle.java_resolver.proofs.FirstOnes.{element_added, nothing_added}
 use Rattle.java_resolver.proofs.with_any.add_first.Goals as goal

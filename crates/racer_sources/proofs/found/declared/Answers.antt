@@ -1,31 +1,38 @@
-use Rattle.std.proofs.Common.{◌≡◌, ◌∙◌, List, None, string_bytes, sym, subst}
+use Rattle.std.proofs.Common.{◌∙◌, map, string_bytes, sym}
 use Rattle.std.proofs.lemmas.List.{length-map}
-use Rattle.java_tree.specs.declared.unit.Unit as unit
-use Rattle.java_resolver.specs.Refusals.{refusal}
-use Rattle.racer_sources.specs.Finding.{IsTableOf}
-use Rattle.racer_sources.specs.Declaring.{IsDeclaredFault}
-use Rattle.racer_sources.proofs.Together.{declared_there, accepted_there}
+use Rattle.racer_sources.specs.Reading.{AreThere, NeverFails}
+use Rattle.racer_sources.proofs.Declared.{known_of, counts_of, never_of, accepted_of, refused_of}
+use Rattle.racer_sources.proofs.Faults.{anyhow, on_ok_anyhow}
 use Rattle.racer_sources.proofs.found.declared.Goals as goal
 
-pub returns-in-Ok-clause-known : goal.returns-in-Ok-clause-known
-returns-in-Ok-clause-known g c =
-    let same = c.as_slice.ensures.value in
-    record {
-      counted = c.in_ok-units.ensures.counted ∙ sym (length-map c.args.names.now string_bytes);
-      table = subst (λ (us : List unit.Unit). IsTableOf us c.in-Ok.table) same c.in-Ok.ensures.table;
-      none = subst (λ (us : List unit.Unit). refusal us ≡ None) same c.in-Ok.ensures.none;
-      read = c.in_ok-units.ensures.any;
-    }
+pub returns-clause-count : goal.returns-clause-count
+returns-clause-count g c =
+    counts_of c.with_table.result c.in_ok-units.units.items _ _ c.with_table.ensures.fault c.in_ok-units.ensures.count
 
-pub returns-in-Ok-clause-read : goal.returns-in-Ok-clause-read
-returns-in-Ok-clause-read g c =
-    accepted_there (g.F.Folder.told c.args.folder.now) c.args.names.now c.in_ok-units.units.items
-    c.in_ok-units.ensures.read
-    (subst (λ (us : List unit.Unit). refusal us ≡ None) c.as_slice.ensures.value c.in-Ok.ensures.none)
+pub returns-clause-steady : goal.returns-clause-steady
+returns-clause-steady g c = λ _.
+    anyhow (NeverFails c.with_table.result) (λ t. AreThere t.files (map string_bytes c.args.names.now))
+    (g.F.Folder.told c.args.folder.now)
+    (never_of c.with_table.result c.in_ok-units.units.items c.with_table.ensures.fault)
 
-pub returns-in-Err-clause-refused : goal.returns-in-Err-clause-refused
-returns-in-Err-clause-refused g c =
-    let fault = c.in-Err.fault in
-    declared_there (g.F.Folder.told c.args.folder.now) c.args.names.now c.in_ok-units.units.items fault
-    c.in_ok-units.ensures.read
-    (subst (λ (us : List unit.Unit). IsDeclaredFault us fault) c.as_slice.ensures.value c.in-Err.ensures.fault)
+pub returns-clause-known : goal.returns-clause-known
+returns-clause-known g c =
+    known_of c.with_table.result (map string_bytes c.args.names.now) c.in_ok-units.units.items
+    (c.in_ok-units.ensures.counted ∙ sym (length-map c.args.names.now string_bytes)) c.in_ok-units.ensures.any
+    c.with_table.ensures.ok
+
+pub returns-clause-read : goal.returns-clause-read
+returns-clause-read g c =
+    accepted_of c.with_table.result (g.F.Folder.told c.args.folder.now) c.args.names.now c.in_ok-units.units.items
+    c.in_ok-units.ensures.read c.with_table.ensures.ok
+
+pub returns-clause-refused : goal.returns-clause-refused
+returns-clause-refused g c =
+    refused_of c.with_table.result (g.F.Folder.told c.args.folder.now) c.args.names.now c.in_ok-units.units.items
+    c.in_ok-units.ensures.read c.with_table.ensures.fault
+
+pub returns-clause-kept_any : goal.returns-clause-kept_any
+returns-clause-kept_any g c = on_ok_anyhow _ c.with_table.result c.in_ok-units.ensures.kept_any
+
+pub returns-clause-kept : goal.returns-clause-kept
+returns-clause-kept g c = on_ok_anyhow _ c.with_table.result c.in_ok-units.ensures.kept

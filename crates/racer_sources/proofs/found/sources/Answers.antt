@@ -1,10 +1,12 @@
-use Rattle.std.proofs.Common.{◌≡◌, List, map, string_bytes, sym, subst, Option, String, Global}
+use Rattle.std.proofs.Common.{◌≡◌, List, length, map, string_bytes, sym, subst, Option, String, Global}
 use Rattle.std.specs.Option.{IfSome}
 use Rattle.racer_base.specs.Outside.{Told}
 use Rattle.racer_sources.specs.declared.fault.SourceFault.TheVariants.{Failed}
 use Rattle.racer_sources.specs.Sources.{source_names}
 use Rattle.racer_sources.specs.Finding.{AreKnown}
 use Rattle.racer_sources.specs.Reading.{AreThere}
+use Rattle.racer_sources.specs.Contents.{AreInLimits}
+use Rattle.racer_sources.proofs.ReadContents.{in_limits, found_there}
 use Rattle.racer_sources.proofs.There.{steady_sources}
 use Rattle.racer_sources.proofs.Faults.{keeps_on, steady_answer, refused_known, on_ok_anyhow}
 use Rattle.racer_sources.proofs.found.sources.Goals as goal
@@ -33,10 +35,26 @@ pub returns-in-Err-clause-entered : goal.returns-in-Err-clause-entered
 returns-in-Err-clause-entered g c = on_ok_anyhow _ c.refused.result c.in_ok-names.ensures.entered
 
 pub returns-in-Ok-clause-known : goal.returns-in-Ok-clause-known
-returns-in-Ok-clause-known g c =
-    subst (λ (ns : List (String Global)). AreKnown
-    (map string_bytes ns) c.in-Ok.declared.units.items c.in-Ok.declared.table)
-    c.as_slice.ensures.value c.in-Ok.ensures.known
+returns-in-Ok-clause-known g c = (
+  subst (λ (ns : List (String Global)). AreKnown
+      (map string_bytes ns) c.in-Ok.declared.units.items c.in-Ok.declared.table)
+      c.as_slice.ensures.value c.in-Ok.ensures.known,
+  subst (λ (ns : List (String Global)). AreInLimits (length ns) c.declared.new.contents.items)
+      c.as_slice.ensures.value
+      (in_limits (length c.as_slice.result.now) c.new-contents.result c.declared.new.contents
+      c.new-contents.ensures.items c.in-Ok.ensures.kept_any),
+)
+
+pub returns-in-Ok-clause-found : goal.returns-in-Ok-clause-found
+returns-in-Ok-clause-found g c =
+    found_there (g.F.Folder.told c.args.folder.now) _ c.as_slice.result.now (record {
+      names = c.in_ok-names.names;
+      contents = c.declared.new.contents;
+      units = c.in-Ok.declared.units;
+      table = c.in-Ok.declared.table;
+    }) c.new-contents.result
+    c.in_ok-names.ensures.keeps.told c.new-contents.ensures.items c.as_slice.ensures.value c.in_ok-names.ensures.names
+    c.in-Ok.ensures.read c.in-Ok.ensures.kept
 
 pub returns-in-Err-clause-known : goal.returns-in-Err-clause-known
 returns-in-Err-clause-known g c = refused_known _ c.in-Err.fault c.refused.result c.refused.ensures

@@ -2,7 +2,7 @@ use Rattle.std.proofs.Common.{subst}
 use Rattle.std.specs.Option.{IfSome}
 use Rattle.racer_base.specs.Outside.{Told}
 use Rattle.racer_sources.specs.declared.found.FolderSources.{FolderSources}
-use Rattle.racer_sources.specs.Finding.{IsFound}
+use Rattle.racer_sources.specs.Finding.{IsFound, IsKnown}
 use Rattle.racer_sources.proofs.Conditions.{lowered_there}
 use Rattle.racer_sources.proofs.programs.folder_program.Goals as goal
 
@@ -13,3 +13,7 @@ returns-in_ok-lowered-in-Accepted-clause-found g c =
     (subst (λ (f : FolderSources). IfSome told (λ (t : Told). IsFound t.files f)) c.in-Accepted.is
     c.in_ok-found.ensures.found)
     c.in_ok-lowered-in-Accepted.ensures
+
+pub lowered_sources-lowered-requires : goal.lowered_sources-lowered-requires
+lowered_sources-lowered-requires g c =
+    (subst (λ (f : FolderSources). IsKnown f) c.in-Accepted.is c.in_ok-found.ensures.known).0

@@ -6,6 +6,8 @@ use Rattle.racer_sources.specs.Sources.{bytes_of}
 use Rattle.racer_sources.specs.Reading.{IsAdded, IsNextRefused, IfRefused, AreThere}
 use Rattle.racer_sources.proofs.Added.{steady_there, counted_more, somehow_more, leads_more, read_all_told}
 use Rattle.racer_sources.proofs.Added.{refused_there}
+use Rattle.racer_sources.specs.ReadContents.{AddsContent}
+use Rattle.racer_sources.proofs.ReadContents.{many_more, most_more, keeps_more, keeps_all}
 use Rattle.racer_sources.proofs.Faults.{anyhow, keeps_on}
 use Rattle.racer_sources.proofs.units.read_all.Goals as goal
 
@@ -38,7 +40,32 @@ loop-name-preserved g c =
           (string_bytes (get_or c.args.names.now c.loop-name.name-index name))) old new)) before.keeps.told
           (subst (λ (bytes : List ℕ). IfSome (g.F.Folder.told c.loop-name.folder)
           (λ (t : Told). IsAdded (bytes_of t.files bytes) old new)) text after.read));
+      as_many = many_more c.args.contents.now c.loop-name.contents c.add_source.new.contents c.loop-name.name-index
+          before.as_many after.kept_any;
+      most = λ most. most_more c.loop-name.contents c.add_source.new.contents (before.most most) after.kept_any;
+      kept = keeps_more (g.F.Folder.told c.args.folder.now) c.args.names.now c.loop-name.name-index name
+          c.args.contents.now c.loop-name.contents c.add_source.new.contents c.loop-name-test.true before.kept
+          (subst (λ (o : Option Told). IfSome o (λ (t : Told). AddsContent (bytes_of t.files
+          (string_bytes (get_or c.args.names.now c.loop-name.name-index name))) c.loop-name.contents
+          c.add_source.new.contents)) before.keeps.told
+          (subst (λ (bytes : List ℕ). IfSome (g.F.Folder.told c.loop-name.folder)
+          (λ (t : Told). AddsContent (bytes_of t.files bytes) c.loop-name.contents c.add_source.new.contents)) text
+          after.kept));
     }
+
+pub returns-clause-kept_any : goal.returns-clause-kept_any
+returns-clause-kept_any g c =
+    record {
+      as_many = let h = c.loop-name-test.false in
+          omega (arith, c.loop-name.invariant.as_many, c.loop-name.auto.name-index-end);
+      few = c.requires;
+      most = c.loop-name.invariant.most;
+    }
+
+pub returns-clause-kept : goal.returns-clause-kept
+returns-clause-kept g c =
+    keeps_all (g.F.Folder.told c.args.folder.now) c.args.names.now c.loop-name.name-index c.args.contents.now
+    c.loop-name.contents (let h = c.loop-name-test.false in omega arith) c.loop-name.invariant.kept
 
 pub returns-clause-read : goal.returns-clause-read
 returns-clause-read g c =

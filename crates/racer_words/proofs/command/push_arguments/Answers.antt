@@ -20,14 +20,15 @@ returns c =
     let workers = local (option_rule (codes "workers")) in
     let replay = local (option_rule (codes "replay")) in
     let made = local (option_rule (codes "made")) in
+    let edits = local (option_rule (codes "edits")) in
     let json = local (flag_rule (codes "json")) in
     let summaries = local (flag_rule (codes "summaries")) in
     let history = local (flag_rule (codes "history")) in
     let containers = local (flag_rule (codes "containers")) in
-    let with_options = λ (rules : List (Rule × Bool)). rules ++ workers ∷ replay ∷ made ∷ [] in
+    let with_options = λ (rules : List (Rule × Bool)). rules ++ workers ∷ replay ∷ made ∷ edits ∷ [] in
     let with_flags = λ (rules : List (Rule × Bool)). rules ++ json ∷ summaries ∷ history ∷ containers ∷ [] in
     on_ok_weaker c.push_named-2.result
     (λ is. is ∙ ap with_flags (c.in_ok-push_named.ensures ∙ ap with_options folder)
-    ∙ one_by_one (rules_of old ++ local folder_rule ∷ []) workers replay made json summaries
+    ∙ one_by_one (rules_of old ++ local folder_rule ∷ []) workers replay made edits json summaries
     history containers)
     c.push_named-2.ensures

@@ -12,6 +12,7 @@ returns c =
       workers = c.get_str-2.ensures ∙ first_value-rows found (codes "workers");
       replay = c.get_str-3.ensures ∙ first_value-rows found (codes "replay");
       made = c.get_str-4.ensures ∙ first_value-rows found (codes "made");
+      edits = c.get_str-5.ensures ∙ first_value-rows found (codes "edits");
       json = λ b e. flag_is b c.get_flag.result _ c.get_flag.ensures.value c.get_flag.ensures.other
           (one_text-rows found (codes "json") ∙ e);
       summaries = λ b e. flag_is b c.get_flag-2.result _ c.get_flag-2.ensures.value c.get_flag-2.ensures.other

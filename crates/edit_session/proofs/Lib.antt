@@ -1,0 +1,14 @@
+mod Among
+mod Calling
+mod LevelSteps
+mod LevelTables
+mod ByLevel
+mod Partners
+mod TiedCalls
+mod AsBefore
+mod Keeping
+mod Gathering
+mod Putting
+mod Listing
+mod Through
+mod Makings

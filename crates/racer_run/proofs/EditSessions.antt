@@ -1,0 +1,498 @@
+-- What is said of a session, as the code goes through its edits.
+use Rattle.std.proofs.Common.{◌≡◌, ℕ, zero, suc, ◌+◌, ◌<◌, ◌≤◌, Bool, true, false, ◌&&◌, cond, nat_lt, List, [], ◌∷◌}
+use Rattle.std.proofs.Common.{Option, None, Some, Result, Ok, Err, refl, sym, ap, subst, ◌∙◌, arith, length, take, drop}
+use Rattle.std.proofs.Common.{◌++◌, map, get_or, option_map, string_bytes, codes, append_assoc, length-take, String}
+use Rattle.std.proofs.Common.{Vec, Global}
+use Rattle.std.specs.Prelude.{IfOk, IfErr, OnOk, All}
+use Rattle.std.specs.FinMap.{contains_key, get, insert}
+use Rattle.std.specs.List.{list_all, list_any}
+use Rattle.std.specs.Option.{is_some, IfSome}
+use Rattle.std.proofs.lemmas.Bool.Decides.{nat_tests}
+use Rattle.std.proofs.lemmas.List.{take_all, drop_more, length-map}
+use Rattle.std.proofs.lemmas.List.Elements.{All-nil, All-cons, All-head, All-tail, All-get_or}
+use Rattle.container_cells.specs.declared.cell.Containers.TheVariants.{Opaque}
+use Rattle.race_pairs.specs.declared.warning.Warning.{Warning}
+use Rattle.race_pairs.specs.Warnings.{warnings}
+use Rattle.racer_base.specs.Outside.{Files, Told, same_name}
+use Rattle.racer_base.specs.declared.limits.TheConstants.{MAX_FILE_BYTES}
+use Rattle.racer_base.specs.declared.outside.FolderFault.{FolderFault}
+use Rattle.core_code.specs.Core.{Core}
+use Rattle.core_code.specs.Program.{core}
+use Rattle.core_code.specs.declared.program.Program.{Program}
+use Rattle.racer_sources.specs.Contents.{front}
+use Rattle.racer_sources.specs.Finding.{FailsByMemory, KeepsMeaning}
+use Rattle.racer_sources.specs.Kept.{AreKept, HasKept, source_kept}
+use Rattle.racer_sources.specs.Programs.{Source, Refusal, Accepted, IsSource, source_of}
+use Rattle.racer_sources.specs.Sources.{source_names, bytes_of}
+use Rattle.racer_sources.specs.declared.programs.FoundProgram.{FoundProgram}
+use Rattle.racer_sources.specs.declared.programs.FoundProgram.TheVariants as found
+use Rattle.racer_sources.specs.declared.source_files.SourceFiles.{SourceFiles}
+use Rattle.racer_words.specs.Words.{WantedEdits}
+use Rattle.transfer_ties.specs.Again.{again}
+use Rattle.witness_build_laws.specs.Headline.{AreConfirmed}
+use Rattle.witness_text.specs.Replaying.{DoWitnessesReplay}
+use Rattle.racer_run.specs.declared.edit_lines.TheConstants.{MAX_EDITS}
+use Rattle.racer_run.specs.declared.edit_lines.EditLine.{EditLine}
+use Rattle.racer_run.specs.declared.edit_lines.EditsFault.{EditsFault}
+use Rattle.racer_run.specs.declared.edit_lines.EditsFault.TheVariants as fault
+use Rattle.racer_run.specs.declared.output.RunOutput.{RunOutput}
+use Rattle.racer_run.specs.declared.status.Status.{Status}
+use Rattle.racer_run.specs.declared.status.Status.TheVariants.{NotEdits, Refused}
+use Rattle.racer_run.specs.EditLines.{seen, AreEdits}
+use Rattle.racer_run.specs.Edits.{Edit, NoEdits, TooLong, BadLine, edit_of, edits_from, edits_in, is_edit, is_space}
+use Rattle.racer_run.specs.Edits.{is_word, lines, put}
+use Rattle.racer_run.specs.RunOutputs.{said_from, report_status, HasHeadline, HasReplays}
+use Rattle.racer_run.specs.Sessions.{AreSources, AreEditsSaid, IsSessionSaid, IsEditsSaid, SaysEdits, HasEdits}
+use Rattle.racer_run.specs.Sessions.{AreThere, IsStep, IsStepSaid, IsSourceOf, AreSourcesOf, IsThere, AreAllThere}
+use Rattle.racer_run.specs.Sessions.{IsNotEdits, IsWhyPut, analysed_line, edited, edit_line, edit_said, not_edits, plain_mode}
+use Rattle.racer_run.specs.Sessions.{program_behind, refused_line, said_behind, session_text, why_text, with_behind}
+use Rattle.racer_run.specs.Statuses.{is_edits_status}
+
+pub if_ok : {T E : Type 0} (r : Result T E) (x : T) (P : T → Type 0) → P x → IfOk r (λ y. y ≡ x) → IfOk r P
+if_ok (Ok y) x P h e = subst P (sym e) h
+if_ok (Err e) x P h is = tt
+
+pub on_ok : {T E : Type 0} (P : Type 0) (r : Result T E) → P → OnOk r P
+on_ok P (Ok x) p = p
+on_ok P (Err e) p = tt
+
+-- what two calls on a folder leave of it, one after the other
+pub keeps_on : {F : Type 0} {tells : F → Option Told} {IsSteady : F → Type 0} {old mid new : F} →
+    KeepsMeaning tells IsSteady old mid → KeepsMeaning tells IsSteady mid new → KeepsMeaning tells IsSteady old new
+keeps_on first next =
+    record { told = next.told ∙ first.told; stays = λ steady. next.stays (first.stays steady) }
+
+-- ---- why there are no edits
+
+why_line : (why : NoEdits) (old new text : List ℕ) → new ≡ old ++ why_text why → old ≡ codes "not edits: "
+    → text ≡ new ++ codes "\n" → text ≡ codes "not edits: " ++ why_text why ++ codes "\n"
+why_line why old new text is before behind =
+    behind
+    ∙ ap (λ (t : List ℕ). t ++ codes "\n") (is ∙ ap (λ (t : List ℕ). t ++ why_text why) before)
+
+pub why_said : (f : EditsFault) (old new text : List ℕ) → IsWhyPut f old new → old ≡ codes "not edits: "
+    → text ≡ new ++ codes "\n" → IsNotEdits f (record { status = NotEdits; text = text })
+why_said fault.TooLong old new text is before behind =
+    λ i. record { status = NotEdits; text = why_line TooLong old new text is before behind i }
+why_said (fault.BadLine n) old new text is before behind =
+    λ i. record { status = NotEdits; text = why_line (BadLine n) old new text is before behind i }
+why_said fault.Memory old new text is before behind = is
+
+pub not_edits_status : (f : EditsFault) (said : RunOutput) → IsNotEdits f said → is_edits_status said.status ≡ true
+not_edits_status fault.TooLong said is = ap (λ (s : RunOutput). is_edits_status s.status) is
+not_edits_status (fault.BadLine n) said is = ap (λ (s : RunOutput). is_edits_status s.status) is
+not_edits_status fault.Memory said is = absurd is
+
+-- ---- one edit
+
+by_warnings : (found : List Warning) → is_edits_status (report_status found) ≡ true
+by_warnings [] = refl
+by_warnings (w ∷ ws) = refl
+
+from_status : (source : Source) → is_edits_status (said_from plain_mode source).status ≡ true
+from_status (Refusal line) = refl
+from_status (Accepted program) = by_warnings (warnings program)
+
+pub edit_status : (last : Core) (edit : Edit) (source : Source) (said : RunOutput) → said ≡ edit_said last edit source
+    → is_edits_status said.status ≡ true
+edit_status last edit source said is = ap (λ (s : RunOutput). is_edits_status s.status) is ∙ from_status source
+
+pub report_status_said : (program : Core) (said : RunOutput) → said ≡ said_from plain_mode (Accepted program)
+    → is_edits_status said.status ≡ true
+report_status_said program said is =
+    ap (λ (s : RunOutput). is_edits_status s.status) is ∙ from_status (Accepted program)
+
+pub accepted_said : (last now : Core) (edit : Edit) (program : Core) (line : List ℕ) (count : ℕ) (said : RunOutput)
+    → now ≡ program → line ≡ analysed_line edit.file count → count ≡ length (again last program)
+    → said ≡ said_from plain_mode (Accepted now) → said_behind line said ≡ edit_said last edit (Accepted program)
+accepted_said last now edit program line count said same line_is counted is =
+    ap (λ (text : List ℕ). said_behind text said) (line_is ∙ ap (analysed_line edit.file) counted)
+    ∙ ap (said_behind (edit_line last edit (Accepted program)))
+    (is ∙ ap (λ (p : Core). said_from plain_mode (Accepted p)) same)
+
+pub headline_of : ((program : Program) → AreConfirmed (core program)) → (f : FoundProgram) → HasHeadline (source_of f)
+headline_of law (found.Accepted program) = law program
+headline_of law (found.Refused line) = tt
+
+pub replays_of : ((program : Program) → DoWitnessesReplay (core program)) → (f : FoundProgram)
+    → HasReplays (source_of f)
+replays_of law (found.Accepted program) = law program
+replays_of law (found.Refused line) = tt
+
+-- a file that was read is there, and this is the front of it
+read_there : (o : Option (List ℕ)) (read : List ℕ) → option_map front o ≡ Some read
+    → (is_some o ≡ true) × (read ≡ front (elim o [ None ↦ [] | (Some bytes) ↦ bytes ]))
+read_there None read e = absurd (let bad : ◌≡◌ {A = Option (List ℕ)} None (Some read) = e in cc)
+read_there (Some bytes) read e = (refl, let same : front bytes ≡ read = cc in sym same)
+
+step_at : (folder now : Files) (edit : EditLine) (old new : SourceFiles) (read : List ℕ) (f : FoundProgram)
+    (last next : Core) (said : RunOutput) → option_map front (get folder edit.content.now) ≡ Some read
+    → IsSourceOf old edit
+    → ((files : Files) (whole : List ℕ) → AreKept files old
+    → list_any (same_name edit.file.now) (source_names files) ≡ true → read ≡ front whole
+    → AreKept (insert files edit.file.now whole) new)
+    → ((files : Files) → AreKept files new → IsSource Opaque files (source_of f)) → HasHeadline (source_of f)
+    → HasReplays (source_of f) → said ≡ edit_said last (seen edit) (source_of f)
+    → next ≡ program_behind last (source_of f) → AreKept now old
+    → IsStepSaid folder now last (seen edit) next new said
+step_at folder now edit old new read f last next said is source replaced program headline replays said_so next_is kept =
+    let there = read_there (get folder edit.content.now) read is in
+    let named : list_any (same_name edit.file.now) (source_names now) ≡ true =
+    ap (list_any (same_name edit.file.now)) (sym kept.names) ∙ source in
+    let kept_then = replaced now (bytes_of folder edit.content.now) kept named there.1 in
+    record {
+      source = source_of f;
+      step = record {
+        there = there.0;
+        is = program (edited folder now (seen edit)) kept_then;
+        headline = headline;
+        replays = replays;
+      };
+      said_so = said_so;
+      next_is = next_is;
+      kept_are = kept_then;
+    }
+
+pub step_said : (o : Option Told) (edit : EditLine) (old new : SourceFiles) (read : List ℕ) (f : FoundProgram)
+    (last next : Core) (said : RunOutput)
+    → IfSome o (λ (t : Told). option_map front (get t.files edit.content.now) ≡ Some read) → IsSourceOf old edit
+    → ((files : Files) (whole : List ℕ) → AreKept files old
+    → list_any (same_name edit.file.now) (source_names files) ≡ true → read ≡ front whole
+    → AreKept (insert files edit.file.now whole) new)
+    → ((files : Files) → AreKept files new → IsSource Opaque files (source_of f)) → HasHeadline (source_of f)
+    → HasReplays (source_of f) → said ≡ edit_said last (seen edit) (source_of f)
+    → next ≡ program_behind last (source_of f)
+    → IfSome o (λ (t : Told). (now : Files) → AreKept now old → IsStepSaid t.files now last (seen edit) next new said)
+step_said None edit old new read f last next said is source replaced program headline replays said_so next_is = tt
+step_said (Some t) edit old new read f last next said is source replaced program headline replays said_so next_is =
+    λ now kept.
+    step_at t.files now edit old new read f last next said is source replaced program headline replays said_so next_is
+    kept
+
+-- ---- one edit after the other
+
+-- what is said of the edits that are left, behind what was said, is what is said of all
+pub record GoesOn (folder : Files) (program : Core) (edits left : List Edit) (last : Core) (kept : SourceFiles)
+    (said : RunOutput) : Type 0 where
+  pub now : Files
+  pub kept_are : AreKept now kept
+  pub rest : (sources : List Source) → AreSources folder now last left sources
+      → AreEditsSaid folder program edits (session_text said last left sources)
+
+session_behind : (first said : RunOutput) (last : Core) (edits : List Edit) (sources : List Source)
+    → session_text (with_behind first said) last edits sources
+    ≡ with_behind first (session_text said last edits sources)
+session_behind first said last [] sources = refl
+session_behind first said last (edit ∷ edits) [] = refl
+session_behind first said last (edit ∷ edits) (source ∷ sources) =
+    let rest = session_text (edit_said last edit source) (program_behind last source) edits sources in
+    λ i. record { status = rest.status; text = append_assoc first.text said.text rest.text i }
+
+goes_all : (folder : Files) (program : Core) (edits : List Edit) (last : Core) (kept : SourceFiles) (said : RunOutput)
+    → last ≡ program → said ≡ said_from plain_mode (Accepted last) → AreKept folder kept
+    → GoesOn folder program edits edits last kept said
+goes_all folder program edits last kept said same is are =
+    record {
+      now = folder;
+      kept_are = are;
+      rest = λ sources made. (
+        sources,
+        subst (λ (p : Core). AreSources folder folder p edits sources) same made,
+        ap (λ (s : RunOutput). session_text s last edits sources)
+            (is ∙ ap (λ (p : Core). said_from plain_mode (Accepted p)) same)
+            ∙ ap (λ (p : Core). session_text (said_from plain_mode (Accepted program)) p edits sources) same,
+      );
+    }
+
+goes_one : (folder : Files) (program : Core) (edits left : List Edit) (edit : Edit) (last next : Core)
+    (old new : SourceFiles) (said part : RunOutput) (before : GoesOn folder program edits (edit ∷ left) last old said)
+    → IsStepSaid folder before.now last edit next new part
+    → GoesOn folder program edits left next new (with_behind said part)
+goes_one folder program edits left edit last next old new said part before step =
+    record {
+      now = edited folder before.now edit;
+      kept_are = step.kept_are;
+      rest = λ sources made.
+          let here : AreSources folder (edited folder before.now edit) (program_behind last step.source) left sources =
+          subst (λ (p : Core). AreSources folder (edited folder before.now edit) p left sources) step.next_is made in
+          let text : with_behind said
+          (session_text (edit_said last edit step.source) (program_behind last step.source) left sources)
+          ≡ session_text (with_behind said part) next left sources =
+          ap (λ (p : Core). with_behind said (session_text (edit_said last edit step.source) p left sources))
+          (sym step.next_is)
+          ∙ ap (λ (s : RunOutput). with_behind said (session_text s next left sources)) (sym step.said_so)
+          ∙ sym (session_behind said part next left sources) in
+          subst (λ (s : RunOutput). AreEditsSaid folder program edits s) text
+          (before.rest (step.source ∷ sources) (step.step, here));
+    }
+
+-- of a folder that tells its files, where those are kept in the beginning
+abbrev pub GoesFrom : Option Told → Core → List EditLine → ℕ → SourceFiles → Core → SourceFiles → RunOutput → Type 0
+GoesFrom o program edits i first last kept said =
+    IfSome o (λ (t : Told). AreKept t.files first
+    → GoesOn t.files program (map seen edits) (map seen (drop i edits)) last kept said)
+
+pub goes_init : (o : Option Told) (program : Core) (edits : List EditLine) (last : Core) (kept : SourceFiles)
+    (said : RunOutput) → last ≡ program → said ≡ said_from plain_mode (Accepted last)
+    → GoesFrom o program edits 0 kept last kept said
+goes_init None program edits last kept said same is = tt
+goes_init (Some t) program edits last kept said same is =
+    λ are. goes_all t.files program (map seen edits) last kept said same is are
+
+pub goes_more : (o : Option Told) (program : Core) (edits : List EditLine) (i : ℕ) (d : EditLine)
+    (first old new : SourceFiles) (last next : Core) (said part both : RunOutput) → i < length edits
+    → GoesFrom o program edits i first last old said
+    → IfSome o (λ (t : Told). (now : Files) → AreKept now old
+    → IsStepSaid t.files now last (seen (get_or edits i d)) next new part)
+    → both ≡ with_behind said part → GoesFrom o program edits (i + 1) first next new both
+goes_more None program edits i d first old new last next said part both h before step is = tt
+goes_more (Some t) program edits i d first old new last next said part both h before step is =
+    λ are.
+    let left = map seen (drop (i + 1) edits) in
+    let here : GoesOn t.files program (map seen edits) (seen (get_or edits i d) ∷ left) last old said =
+    subst (λ (es : List EditLine). GoesOn t.files program (map seen edits) (map seen es) last old said)
+    (drop_more edits i d h) (before are) in
+    subst (λ (s : RunOutput). GoesOn t.files program (map seen edits) left next new s) (sym is)
+    (goes_one t.files program (map seen edits) left (seen (get_or edits i d)) last next old new said part here
+    (step here.now here.kept_are))
+
+pub goes_said : (o : Option Told) (program : Core) (edits : List EditLine) (i : ℕ) (first kept : SourceFiles)
+    (last : Core) (said : RunOutput) → drop i edits ≡ [] → GoesFrom o program edits i first last kept said
+    → IfSome o (λ (t : Told). AreKept t.files first → AreEditsSaid t.files program (map seen edits) said)
+goes_said None program edits i first kept last said none goes = tt
+goes_said (Some t) program edits i first kept last said none goes =
+    λ are.
+    let here : GoesOn t.files program (map seen edits) [] last kept said =
+    subst (λ (es : List EditLine). GoesOn t.files program (map seen edits) (map seen es) last kept said) none
+    (goes are) in
+    here.rest [] tt
+
+-- ---- what the edits name
+
+pub still_named : (old now : SourceFiles) (edits : List EditLine) (i : ℕ) (d : EditLine) → now.names ≡ old.names
+    → i < length edits → AreSourcesOf edits old → IsSourceOf now (get_or edits i d)
+still_named old now edits i d same h are =
+    subst (λ (ns : Vec (String Global) Global).
+    list_any (same_name (get_or edits i d).file.now) (map string_bytes ns.items) ≡ true) (sym same) (are i d h)
+
+seen_there : (files : Files) (edits : List EditLine) (i : ℕ) (d : EditLine) → i < length edits
+    → AreAllThere files (map seen edits) → IsThere files (seen (get_or edits i d))
+seen_there files [] i d h are = absurd (let bad : i < 0 = h in omega arith)
+seen_there files (edit ∷ edits) zero d h are = All-head (IsThere files) (seen edit) (map seen edits) are
+seen_there files (edit ∷ edits) (suc i) d h are =
+    seen_there files edits i d (omega arith) (All-tail (IsThere files) (seen edit) (map seen edits) are)
+
+pub steady_step : {T : Type 0} (o now : Option Told) (edits : List EditLine) (i : ℕ) (d : EditLine)
+    (r : Result T FolderFault) → now ≡ o → i < length edits
+    → IfSome now (λ (t : Told). IsThere t.files (seen (get_or edits i d)) → FailsByMemory r)
+    → IfSome o (λ (t : Told). AreAllThere t.files (map seen edits) → FailsByMemory r)
+steady_step o None edits i d r same h fails =
+    subst (λ (v : Option Told). IfSome v (λ (t : Told). AreAllThere t.files (map seen edits) → FailsByMemory r)) same tt
+steady_step o (Some t) edits i d r same h fails =
+    subst (λ (v : Option Told). IfSome v (λ (u : Told). AreAllThere u.files (map seen edits) → FailsByMemory r)) same
+    (λ are. fails (seen_there t.files edits i d h are))
+
+-- ---- what is said behind a program
+
+-- the edits of lines are of the sources
+abbrev AreOf : List (List ℕ) → List Edit → Type 0
+AreOf sources edits = All (λ (e : Edit). list_any (same_name e.file) sources ≡ true) edits
+
+last_of : (a b c d : Bool) → (a && b && c && d) ≡ true → d ≡ true
+last_of true true true d e = e
+last_of true true false d e = absurd cc
+last_of true false c d e = absurd cc
+last_of false b c d e = absurd cc
+
+named : (sources : List (List ℕ)) (line : List ℕ) → is_edit sources line ≡ true
+    → list_any (same_name (edit_of line).file) sources ≡ true
+named sources line e = last_of (list_any is_space line) (is_word _) (is_word _) _ e
+
+put_named : (sources : List (List ℕ)) (line : List ℕ) (r : Result (List Edit) NoEdits) (edits : List Edit)
+    → ((es : List Edit) → r ≡ Ok es → AreOf sources es) → is_edit sources line ≡ true
+    → put (edit_of line) r ≡ Ok edits → AreOf sources edits
+put_named sources line (Err why) edits rest is e = absurd cc
+put_named sources line (Ok es) edits rest is e =
+    let same : edit_of line ∷ es ≡ edits = cc in
+    subst (AreOf sources) same
+    (All-cons (λ (edit : Edit). list_any (same_name edit.file) sources ≡ true) (edit_of line) es
+    (named sources line is) (rest es refl))
+
+line_named : (sources : List (List ℕ)) (n : ℕ) (line : List ℕ) (r : Result (List Edit) NoEdits) (edits : List Edit)
+    (many is : Bool) → ((es : List Edit) → r ≡ Ok es → AreOf sources es) → is_edit sources line ≡ is
+    → cond many (Err (BadLine n)) (cond is (put (edit_of line) r) (Err (BadLine n))) ≡ Ok edits → AreOf sources edits
+line_named sources n line r edits true is rest test e = absurd cc
+line_named sources n line r edits false true rest test e = put_named sources line r edits rest test e
+line_named sources n line r edits false false rest test e = absurd cc
+
+edits_named : (sources : List (List ℕ)) (n : ℕ) (lines : List (List ℕ)) (edits : List Edit)
+    → edits_from sources n lines ≡ Ok edits → AreOf sources edits
+edits_named sources n [] edits e =
+    let same : ◌≡◌ {A = List Edit} [] edits = cc in
+    subst (AreOf sources) same (All-nil (λ (edit : Edit). list_any (same_name edit.file) sources ≡ true))
+edits_named sources n (line ∷ lines) edits e =
+    line_named sources n line (edits_from sources (suc n) lines) edits (nat_lt MAX_EDITS n) (is_edit sources line)
+    (λ es f. edits_named sources (suc n) lines es f) refl e
+
+file_named : (sources : List (List ℕ)) (bytes : List ℕ) (edits : List Edit) (long : Bool)
+    → cond long (Err TooLong) (edits_from sources 1 (lines bytes)) ≡ Ok edits → AreOf sources edits
+file_named sources bytes edits true e = absurd cc
+file_named sources bytes edits false e = edits_named sources 1 (lines bytes) edits e
+
+all_seen : (P : Edit → Type 0) (edits : List EditLine) → All P (map seen edits) → All (λ e. P (seen e)) edits
+all_seen P [] are = All-nil (λ (e : EditLine). P (seen e))
+all_seen P (edit ∷ edits) are =
+    All-cons (λ (e : EditLine). P (seen e)) edit edits (All-head P (seen edit) (map seen edits) are)
+    (all_seen P edits (All-tail P (seen edit) (map seen edits) are))
+
+pub sources_named : (kept : SourceFiles) (bytes : List ℕ) (edits : List EditLine)
+    → edits_in (map string_bytes kept.names.items) bytes ≡ Ok (map seen edits) → AreSourcesOf edits kept
+sources_named kept bytes edits e =
+    let names = map string_bytes kept.names.items in
+    all_seen (λ (edit : Edit). list_any (same_name edit.file) names ≡ true) edits
+    (file_named names bytes (map seen edits) (nat_lt MAX_FILE_BYTES (length bytes)) e)
+
+pub edits_said : {E : Type 0} (o : Option Told) (r : Result RunOutput E) (program : Core) (kept : SourceFiles)
+    (bytes : List ℕ) (edits : List EditLine)
+    → edits_in (map string_bytes kept.names.items) bytes ≡ Ok (map seen edits)
+    → IfOk r (λ said. IfSome o (λ (t : Told). AreKept t.files kept
+    → AreEditsSaid t.files program (map seen edits) said))
+    → IfOk r (λ said. IfSome o (λ (t : Told). AreKept t.files kept
+    → IsSessionSaid t.files program (edits_in (source_names t.files) bytes) said))
+edits_said o (Err e) program kept bytes edits are said = tt
+edits_said None (Ok s) program kept bytes edits are said = tt
+edits_said (Some t) (Ok s) program kept bytes edits are said =
+    λ kept_are. subst (λ (answer : Result (List Edit) NoEdits). IsSessionSaid t.files program answer s)
+    (sym are ∙ ap (λ (names : List (List ℕ)). edits_in names bytes) kept_are.names) (said kept_are)
+
+and_first : (a b : Bool) → (a && b) ≡ true → a ≡ true
+and_first true b e = refl
+and_first false b e = e
+
+and_second : (a b : Bool) → (a && b) ≡ true → b ≡ true
+and_second true b e = e
+and_second false b e = absurd cc
+
+all_there : (files : Files) (edits : List Edit) → list_all (λ (e : Edit). contains_key files e.content) edits ≡ true
+    → AreAllThere files edits
+all_there files [] e = All-nil (IsThere files)
+all_there files (edit ∷ edits) e =
+    All-cons (IsThere files) edit edits (and_first (contains_key files edit.content) _ e)
+    (all_there files edits (and_second (contains_key files edit.content) _ e))
+
+pub edits_steady : (o : Option Told) (r : Result RunOutput FolderFault) (kept : SourceFiles) (bytes : List ℕ)
+    (edits : List EditLine) → edits_in (map string_bytes kept.names.items) bytes ≡ Ok (map seen edits)
+    → IfSome o (λ (t : Told). AreAllThere t.files (map seen edits) → FailsByMemory r)
+    → IfSome o (λ (t : Told). AreKept t.files kept → AreThere t.files (edits_in (source_names t.files) bytes)
+    → FailsByMemory r)
+edits_steady None r kept bytes edits are fails = tt
+edits_steady (Some t) r kept bytes edits are fails =
+    λ kept_are there. fails (all_there t.files (map seen edits)
+    (subst (AreThere t.files) (ap (λ (names : List (List ℕ)). edits_in names bytes) (sym kept_are.names) ∙ are) there))
+
+no_edits : (f : EditsFault) (folder : Files) (names : List (List ℕ)) (program : Core) (bytes : List ℕ)
+    (said : RunOutput) → AreEdits names bytes (Err f) → IsNotEdits f said
+    → IsSessionSaid folder program (edits_in names bytes) said
+no_edits fault.TooLong folder names program bytes said none is =
+    subst (λ (answer : Result (List Edit) NoEdits). IsSessionSaid folder program answer said) (sym none) is
+no_edits (fault.BadLine n) folder names program bytes said none is =
+    subst (λ (answer : Result (List Edit) NoEdits). IsSessionSaid folder program answer said) (sym none) is
+no_edits fault.Memory folder names program bytes said none is = absurd is
+
+pub no_edits_said : (o : Option Told) (f : EditsFault) (program : Core) (kept : SourceFiles) (bytes : List ℕ)
+    (said : RunOutput) → AreEdits (map string_bytes kept.names.items) bytes (Err f) → IsNotEdits f said
+    → IfSome o (λ (t : Told). AreKept t.files kept
+    → IsSessionSaid t.files program (edits_in (source_names t.files) bytes) said)
+no_edits_said None f program kept bytes said none is = tt
+no_edits_said (Some t) f program kept bytes said none is =
+    λ kept_are. subst (λ (names : List (List ℕ)). IsSessionSaid t.files program (edits_in names bytes) said)
+    kept_are.names (no_edits f t.files (map string_bytes kept.names.items) program bytes said none is)
+
+-- ---- one byte more than a file may have tells that it is too long
+
+still-long : (most : ℕ) (bytes : List ℕ) → nat_lt most (length bytes) ≡ true
+    → nat_lt most (length (take (most + 1) bytes)) ≡ true
+still-long most bytes e = let size = length-take (most + 1) bytes in grind (arith, nat_tests, size, e)
+
+short : (most : ℕ) (bytes : List ℕ) → nat_lt most (length bytes) ≡ false → length bytes ≤ most + 1
+short most bytes e = grind (arith, nat_tests, e)
+
+front_edits : (names : List (List ℕ)) (bytes : List ℕ) → edits_in names (front bytes) ≡ edits_in names bytes
+front_edits names bytes = by (nat_lt MAX_FILE_BYTES (length bytes)) refl
+  where
+    by : (b : Bool) → nat_lt MAX_FILE_BYTES (length bytes) ≡ b → edits_in names (front bytes) ≡ edits_in names bytes
+    by true e =
+        ap (λ (b : Bool). cond b (Err TooLong) (edits_from names 1 (lines (front bytes))))
+        (still-long MAX_FILE_BYTES bytes e)
+        ∙ sym (ap (λ (b : Bool). cond b (Err TooLong) (edits_from names 1 (lines bytes))) e)
+    by false e = ap (edits_in names) (take_all (MAX_FILE_BYTES + 1) bytes (short MAX_FILE_BYTES bytes e))
+
+read_whole : (o : Option (List ℕ)) (read : List ℕ) → option_map front o ≡ Some read
+    → (bytes : List ℕ) × (o ≡ Some bytes) × (front bytes ≡ read)
+read_whole None read e = absurd (let bad : ◌≡◌ {A = Option (List ℕ)} None (Some read) = e in cc)
+read_whole (Some bytes) read e = (bytes, refl, cc)
+
+-- ---- what is said to the request
+
+says_at : (wanted : WantedEdits) (files : Files) (program : Core) (read : List ℕ) (said : RunOutput)
+    → IsSource Opaque files (Accepted program) → AreConfirmed program → DoWitnessesReplay program
+    → option_map front (get files wanted.edits) ≡ Some read
+    → IsSessionSaid files program (edits_in (source_names files) read) said → SaysEdits wanted files said
+says_at wanted files program read said is headline replays file session =
+    let whole = read_whole (get files wanted.edits) read file in
+    record {
+      source = Accepted program;
+      is = is;
+      said_so = (
+        whole.0,
+        whole.1,
+        subst (λ (answer : Result (List Edit) NoEdits). IsSessionSaid files program answer said)
+            (ap (edits_in (source_names files)) (sym whole.2) ∙ front_edits (source_names files) whole.0) session,
+      );
+      headline = headline;
+      replays = replays;
+    }
+
+pub says_edits : {E : Type 0} (o : Option Told) (r : Result RunOutput E) (wanted : WantedEdits) (program : Core)
+    (kept : SourceFiles) (read : List ℕ) → AreConfirmed program → DoWitnessesReplay program
+    → IfSome o (λ (t : Told). IsSource Opaque t.files (Accepted program))
+    → IfSome o (λ (t : Told). AreKept t.files kept)
+    → IfSome o (λ (t : Told). option_map front (get t.files wanted.edits) ≡ Some read)
+    → IfOk r (λ said. IfSome o (λ (t : Told). AreKept t.files kept
+    → IsSessionSaid t.files program (edits_in (source_names t.files) read) said))
+    → IfOk r (λ said. IfSome o (λ (t : Told). SaysEdits wanted t.files said))
+says_edits o (Err e) wanted program kept read headline replays is are file said = tt
+says_edits None (Ok s) wanted program kept read headline replays is are file said = tt
+says_edits (Some t) (Ok s) wanted program kept read headline replays is are file said =
+    says_at wanted t.files program read s is headline replays file (said are)
+
+pub says_refused : (o : Option Told) (wanted : WantedEdits) (line : List ℕ)
+    → IfSome o (λ (t : Told). IsSource Opaque t.files (Refusal line))
+    → IfSome o (λ (t : Told). SaysEdits wanted t.files (record { status = Refused; text = line }))
+says_refused None wanted line is = tt
+says_refused (Some t) wanted line is =
+    record { source = Refusal line; is = is; said_so = refl; headline = tt; replays = tt }
+
+pub steady_edits : (o : Option Told) (r : Result RunOutput FolderFault) (wanted : WantedEdits) (kept : SourceFiles)
+    (read : List ℕ) → IfSome o (λ (t : Told). AreKept t.files kept)
+    → IfSome o (λ (t : Told). option_map front (get t.files wanted.edits) ≡ Some read)
+    → IfSome o (λ (t : Told). AreKept t.files kept → AreThere t.files (edits_in (source_names t.files) read)
+    → FailsByMemory r)
+    → IfSome o (λ (t : Told). wanted.folder ≡ t.name → HasEdits t.files wanted.edits → FailsByMemory r)
+steady_edits None r wanted kept read are file fails = tt
+steady_edits (Some t) r wanted kept read are file fails =
+    λ same has.
+    let whole = read_whole (get t.files wanted.edits) read file in
+    fails are (subst (AreThere t.files)
+    (sym (ap (edits_in (source_names t.files)) (sym whole.2) ∙ front_edits (source_names t.files) whole.0))
+    (has.named whole.0 whole.1))
+
+pub steady_read : {T : Type 0} (o : Option Told) (r : Result T FolderFault) (wanted : WantedEdits)
+    → IfSome o (λ (t : Told). IfSome (get t.files wanted.edits) (λ _. FailsByMemory r))
+    → IfSome o (λ (t : Told). wanted.folder ≡ t.name → HasEdits t.files wanted.edits → FailsByMemory r)
+steady_read None r wanted fails = tt
+steady_read (Some t) r wanted fails = λ same has. at (get t.files wanted.edits) has.there fails
+  where
+    at : (f : Option (List ℕ)) → is_some f ≡ true → IfSome f (λ _. FailsByMemory r) → FailsByMemory r
+    at None there fails = absurd cc
+    at (Some bytes) there fails = fails

@@ -1,0 +1,22 @@
+use Rattle.core_code.specs.declared.parts.ClassCore.{ClassCore}
+use Rattle.transfer_ties.specs.Names.{class_belongs}
+use Rattle.transfer_ties.proofs.Numbers.{adds_named, numbers_all, numbers_next, numbers_none}
+use Rattle.transfer_ties.proofs.making.class_numbers.Goals as goal
+
+pub loop-number-init : goal.loop-number-init
+loop-number-init c = numbers_none class_belongs c.no_numbers-numbers.result c.no_numbers-numbers.ensures
+
+pub loop-number-preserved : goal.loop-number-preserved
+loop-number-preserved c =
+    let class : ClassCore = c.index-classes-number.result in
+    let old = c.loop-number.numbers in
+    let new = c.add_number.new.numbers in
+    numbers_next class_belongs old new c.args.classes.now c.loop-number.number class c.loop-number-test.true
+    c.index-classes-number.is c.loop-number.invariant
+    (adds_named old new c.loop-number.number c.as_str.result.now class.name (0, 0) c.as_str.ensures
+    c.in_ok-add_number.ensures)
+
+pub returns : goal.returns
+returns c =
+    numbers_all class_belongs c.loop-number.numbers c.args.classes.now c.loop-number.number c.loop-number-test.false
+    c.loop-number.invariant
