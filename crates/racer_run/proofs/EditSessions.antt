@@ -31,16 +31,16 @@ use Rattle.racer_words.specs.Words.{WantedEdits}
 use Rattle.transfer_ties.specs.Again.{again}
 use Rattle.witness_build_laws.specs.Headline.{AreConfirmed}
 use Rattle.witness_text.specs.Replaying.{DoWitnessesReplay}
-use Rattle.racer_run.specs.declared.edit_lines.TheConstants.{MAX_EDITS}
-use Rattle.racer_run.specs.declared.edit_lines.EditLine.{EditLine}
-use Rattle.racer_run.specs.declared.edit_lines.EditsFault.{EditsFault}
-use Rattle.racer_run.specs.declared.edit_lines.EditsFault.TheVariants as fault
+use Rattle.racer_run_edits.specs.declared.edit_lines.TheConstants.{MAX_EDITS}
+use Rattle.racer_run_edits.specs.declared.edit_lines.EditLine.{EditLine}
+use Rattle.racer_run_edits.specs.declared.edit_lines.EditsFault.{EditsFault}
+use Rattle.racer_run_edits.specs.declared.edit_lines.EditsFault.TheVariants as fault
 use Rattle.racer_run.specs.declared.output.RunOutput.{RunOutput}
 use Rattle.racer_run.specs.declared.status.Status.{Status}
 use Rattle.racer_run.specs.declared.status.Status.TheVariants.{NotEdits, Refused}
-use Rattle.racer_run.specs.EditLines.{seen, AreEdits}
-use Rattle.racer_run.specs.Edits.{Edit, NoEdits, TooLong, BadLine, edit_of, edits_from, edits_in, is_edit, is_space}
-use Rattle.racer_run.specs.Edits.{is_word, lines, put}
+use Rattle.racer_run_edits.specs.EditLines.{seen, AreEdits}
+use Rattle.racer_run_edits.specs.Edits.{Edit, NoEdits, TooLong, BadLine, edit_of, edits_from, edits_in, is_edit, is_space}
+use Rattle.racer_run_edits.specs.Edits.{is_word, lines, put}
 use Rattle.racer_run.specs.RunOutputs.{said_from, report_status, HasHeadline, HasReplays}
 use Rattle.racer_run.specs.Sessions.{AreSources, AreEditsSaid, IsSessionSaid, IsEditsSaid, SaysEdits, HasEdits}
 use Rattle.racer_run.specs.Sessions.{AreThere, IsStep, IsStepSaid, IsSourceOf, AreSourcesOf, IsThere, AreAllThere}

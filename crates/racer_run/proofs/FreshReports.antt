@@ -9,7 +9,7 @@ use Rattle.racer_sources.specs.OneReading.{OneSource}
 use Rattle.racer_sources.specs.Programs.{Source, IsSource}
 use Rattle.racer_words.specs.Words.{WantedReport}
 use Rattle.racer_run.specs.declared.output.RunOutput.{RunOutput}
-use Rattle.racer_run.specs.Edits.{Edit}
+use Rattle.racer_run_edits.specs.Edits.{Edit}
 use Rattle.racer_run.specs.Fresh.{IsPlain, TellsFresh, TellFresh}
 use Rattle.racer_run.specs.RunOutputs.{SaysReport, said_from, with_tail}
 use Rattle.racer_run.specs.Sessions.{AreSources, edited, edit_line, plain_mode, program_behind, said_behind}

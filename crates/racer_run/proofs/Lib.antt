@@ -6,5 +6,4 @@ mod FreshReports
 mod Tails
 mod JsonBytes
 mod CutWitnesses
-mod EditLines
 mod EditSessions

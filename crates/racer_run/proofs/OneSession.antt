@@ -9,7 +9,7 @@ use Rattle.racer_sources.specs.Programs.{Source, IsSource, Refusal, Accepted}
 use Rattle.racer_sources.specs.Sources.{source_names}
 use Rattle.racer_words.specs.Words.{WantedEdits}
 use Rattle.racer_run.specs.declared.output.RunOutput.{RunOutput}
-use Rattle.racer_run.specs.Edits.{Edit, NoEdits, edits_in}
+use Rattle.racer_run_edits.specs.Edits.{Edit, NoEdits, edits_in}
 use Rattle.racer_run.specs.RunOutputs.{said_from}
 use Rattle.racer_run.specs.Sessions.{AreSources, AreEditsSaid, IsSessionSaid, IsEditsSaid, SaysEdits, edited}
 use Rattle.racer_run.specs.Sessions.{plain_mode, program_behind, session_text}

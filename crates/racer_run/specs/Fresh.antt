@@ -7,7 +7,7 @@ use Rattle.core_code.specs.Core.{Core}
 use Rattle.racer_sources.specs.Programs.{Source}
 use Rattle.racer_words.specs.Words.{WantedReport}
 use Rattle.racer_run.specs.declared.output.RunOutput.{RunOutput}
-use Rattle.racer_run.specs.Edits.{Edit}
+use Rattle.racer_run_edits.specs.Edits.{Edit}
 use Rattle.racer_run.specs.RunOutputs.{SaysReport}
 use Rattle.racer_run.specs.Sessions.{edit_line, edit_said, edited, plain_mode, program_behind, said_behind}
 

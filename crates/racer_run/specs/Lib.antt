@@ -7,8 +7,6 @@ pub mod Made
 pub mod Causes
 pub mod Reports
 pub mod Requests
-pub mod Edits
-pub mod EditLines
 pub mod Sessions
 pub mod Fresh
 pub mod Tails

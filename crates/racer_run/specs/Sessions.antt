@@ -18,10 +18,10 @@ use Rattle.transfer_ties.specs.Again.{again}
 use Rattle.racer_run.specs.declared.output.RunOutput.{RunOutput}
 use Rattle.racer_run.specs.declared.status.Status.{Status}
 use Rattle.racer_run.specs.declared.status.Status.TheVariants.{NotEdits, Refused}
-use Rattle.racer_run.specs.declared.edit_lines.EditLine.{EditLine}
-use Rattle.racer_run.specs.declared.edit_lines.EditsFault.{EditsFault}
-use Rattle.racer_run.specs.declared.edit_lines.EditsFault.TheVariants as fault
-use Rattle.racer_run.specs.Edits.{Edit, NoEdits, TooLong, BadLine, edits_in}
+use Rattle.racer_run_edits.specs.declared.edit_lines.EditLine.{EditLine}
+use Rattle.racer_run_edits.specs.declared.edit_lines.EditsFault.{EditsFault}
+use Rattle.racer_run_edits.specs.declared.edit_lines.EditsFault.TheVariants as fault
+use Rattle.racer_run_edits.specs.Edits.{Edit, NoEdits, TooLong, BadLine, edits_in}
 use Rattle.racer_run.specs.RunOutputs.{said_from, HasHeadline, HasReplays}
 
 -- reports are in text, without summaries

@@ -10,7 +10,7 @@ ghost use Rattle.racer_run.specs.Reports.{AsksNoHistory, WroteOneReport};
 ghost use Rattle.core_code.specs.Core.{Core};
 ghost use Rattle.racer_base.specs.Outside.{Files};
 ghost use Rattle.racer_sources.specs.Programs.{Source};
-ghost use Rattle.racer_run.specs.Edits.{Edit};
+ghost use Rattle.racer_run_edits.specs.Edits.{Edit};
 ghost use Rattle.racer_run.specs.Fresh.{TellFresh};
 ghost use Rattle.racer_run.specs.Sessions.{AreSources};
 

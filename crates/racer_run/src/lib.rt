@@ -6,7 +6,6 @@
 #![tactic(auto)]
 
 mod answers;
-mod edit_lines;
 pub mod laws;
 mod made;
 mod output;

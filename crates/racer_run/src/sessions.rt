@@ -7,14 +7,13 @@ ghost use Rattle.racer_sources.specs.Finding.{CountsFaults, FailsByMemory, Keeps
 ghost use Rattle.racer_sources.specs.Kept.{AreKept};
 ghost use Rattle.racer_sources.specs.Programs.{Accepted, source_of};
 ghost use Rattle.racer_sources.specs.Sources.{source_names};
-ghost use Rattle.racer_run.specs.EditLines.{seen};
-ghost use Rattle.racer_run.specs.Edits.{edits_in};
+ghost use Rattle.racer_run_edits.specs.EditLines.{seen};
+ghost use Rattle.racer_run_edits.specs.Edits.{edits_in};
 ghost use Rattle.racer_run.specs.RunOutputs.{said_from};
 ghost use Rattle.racer_run.specs.Sessions as spec;
 ghost use Rattle.racer_run.specs.Statuses.{is_edits_status};
 ghost use Rattle.racer_words.specs.Requests.{edits_of};
 
-use crate::edit_lines::{EditLine, EditsFault, edits_in};
 use crate::output::RunOutput;
 use crate::reports::said_of;
 use crate::status::Status;
@@ -22,6 +21,7 @@ use core_code::Program;
 use edit_session::Session;
 use race_report_modes::{Format, Mode};
 use racer_base::{Folder, FolderFault, MAX_FILE_BYTES, Memory, Text};
+use racer_run_edits::{EditLine, EditsFault, edits_in};
 use racer_sources::{FoundProgram, KeptProgram, SourceFiles, kept_program};
 use racer_words::WantedEdits;
 use std::alloc::Global;

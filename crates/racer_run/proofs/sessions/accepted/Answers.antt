@@ -2,7 +2,7 @@ use Rattle.std.proofs.Common.{◌≡◌, ◌∙◌, ap, string_bytes}
 use Rattle.core_code.specs.Program.{core}
 use Rattle.edit_session.specs.Sessions.{program_in}
 use Rattle.racer_sources.specs.Programs.{Accepted}
-use Rattle.racer_run.specs.EditLines.{seen}
+use Rattle.racer_run_edits.specs.EditLines.{seen}
 use Rattle.racer_run.specs.Sessions.{edit_said, said_behind}
 use Rattle.racer_run.proofs.EditSessions.{accepted_said, if_ok, on_ok}
 use Rattle.racer_run.proofs.sessions.accepted.Goals as goal

@@ -1,7 +1,7 @@
 use Rattle.std.proofs.Common.{◌≡◌, ◌∙◌, List, Ok, ap, map, sym}
 use Rattle.core_code.specs.Program.{core}
-use Rattle.racer_run.specs.declared.edit_lines.EditLine.{EditLine}
-use Rattle.racer_run.specs.EditLines.{seen}
+use Rattle.racer_run_edits.specs.declared.edit_lines.EditLine.{EditLine}
+use Rattle.racer_run_edits.specs.EditLines.{seen}
 use Rattle.racer_run.proofs.EditSessions.{edits_said, edits_steady, no_edits_said, not_edits_status, sources_named}
 use Rattle.racer_run.proofs.sessions.behind_program.Goals as goal
 

@@ -1,7 +1,7 @@
 use Rattle.core_code.specs.Program.{core}
 use Rattle.edit_session.specs.Sessions.{program_in}
 use Rattle.racer_sources.specs.Programs.{source_of}
-use Rattle.racer_run.specs.EditLines.{seen}
+use Rattle.racer_run_edits.specs.EditLines.{seen}
 use Rattle.racer_run.proofs.EditSessions.{edit_status, headline_of, replays_of, step_said}
 use Rattle.racer_run.proofs.sessions.edited.Goals as goal
 

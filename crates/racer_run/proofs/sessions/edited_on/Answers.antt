@@ -12,7 +12,7 @@ use Rattle.racer_sources.specs.Programs.{IsSource}
 use Rattle.racer_sources.specs.Sources.{source_names}
 use Rattle.racer_sources.specs.declared.kept.KeptProgram.{KeptProgram}
 use Rattle.racer_words.specs.Requests.{edits_of}
-use Rattle.racer_run.specs.Edits.{edits_in}
+use Rattle.racer_run_edits.specs.Edits.{edits_in}
 use Rattle.racer_run.specs.Sessions.{AreThere, IsSessionSaid}
 use Rattle.racer_run.proofs.EditSessions.{on_ok, says_edits, says_refused, steady_edits}
 use Rattle.racer_run.proofs.sessions.edited_on.Goals as goal

@@ -6,7 +6,7 @@ use Rattle.edit_session.specs.Sessions.{program_in}
 use Rattle.racer_base.specs.Outside.{Files, Told}
 use Rattle.racer_sources.specs.Kept.{AreKept}
 use Rattle.racer_run.specs.declared.output.RunOutput.{RunOutput}
-use Rattle.racer_run.specs.EditLines.{seen}
+use Rattle.racer_run_edits.specs.EditLines.{seen}
 use Rattle.racer_run.specs.Sessions.{IsStepSaid}
 use Rattle.racer_run.specs.Statuses.{is_edits_status}
 use Rattle.racer_run.proofs.EditSessions.{goes_init, goes_more, goes_said, keeps_on, report_status_said, steady_step}

@@ -1,8 +1,8 @@
 use Rattle.std.proofs.Common.{◌≡◌, ◌<◌, ◌-◌, ◌+◌, ℕ, List, ◌∷◌, length, length-drop, take, drop, sym, subst, arith}
 use Rattle.std.proofs.lemmas.List.{take_all}
-use Rattle.racer_run.specs.Edits.{lines}
-use Rattle.racer_run.proofs.EditLines.{cut_here, cut_last}
-use Rattle.racer_run.proofs.edit_lines.cut_line.Goals as goal
+use Rattle.racer_run_edits.specs.Edits.{lines}
+use Rattle.racer_run_edits.proofs.EditLines.{cut_here, cut_last}
+use Rattle.racer_run_edits.proofs.edit_lines.cut_line.Goals as goal
 
 to_end : (text : List ℕ) (from : ℕ) → take (length text - from) (drop from text) ≡ drop from text
 to_end text from = take_all (length text - from) (drop from text) (omega (arith, length-drop from text))

@@ -1,8 +1,8 @@
 use Rattle.std.proofs.Common.{◌≡◌, ◌-◌, ◌+◌, ℕ, List, length, length-drop, map, string_bytes, take, drop, true, sym, ◌∙◌, subst, arith}
 use Rattle.std.proofs.lemmas.List.{take_all}
-use Rattle.racer_run.specs.Edits.{is_word}
-use Rattle.racer_run.proofs.EditLines.{is_one_edit}
-use Rattle.racer_run.proofs.edit_lines.edit_in.Goals as goal
+use Rattle.racer_run_edits.specs.Edits.{is_word}
+use Rattle.racer_run_edits.proofs.EditLines.{is_one_edit}
+use Rattle.racer_run_edits.proofs.edit_lines.edit_in.Goals as goal
 
 pub returns-then-has : goal.returns-then-has
 returns-then-has c =

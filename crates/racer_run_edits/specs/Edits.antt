@@ -5,7 +5,7 @@ use Rattle.std.specs.List.{after_first, before_first, list_any}
 use Rattle.std.specs.Str.{is_utf8}
 use Rattle.racer_base.specs.Outside.{same_name}
 use Rattle.racer_base.specs.declared.limits.TheConstants.{MAX_FILE_BYTES}
-use Rattle.racer_run.specs.declared.edit_lines.TheConstants.{MAX_EDITS}
+use Rattle.racer_run_edits.specs.declared.edit_lines.TheConstants.{MAX_EDITS}
 
 -- the file of this name gets what stands in that one
 pub record Edit : Type 0 where

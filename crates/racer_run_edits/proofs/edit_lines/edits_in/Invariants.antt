@@ -1,6 +1,6 @@
 use Rattle.std.proofs.Common.{length, map, string_bytes}
-use Rattle.racer_run.proofs.EditLines.{Makes}
-use Rattle.racer_run.proofs.edit_lines.edits_in.Given as goal
+use Rattle.racer_run_edits.proofs.EditLines.{Makes}
+use Rattle.racer_run_edits.proofs.edit_lines.edits_in.Given as goal
 
 abbrev pub invariant-loop-line : goal.invariant-loop-line
 invariant-loop-line l = Makes (map string_bytes l.sources.names.items) l.bytes l.edits.items l.rest

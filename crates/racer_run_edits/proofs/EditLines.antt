@@ -10,11 +10,11 @@ use Rattle.std.specs.List.{after_first, before_first, list_any, position_or_len}
 use Rattle.std.specs.Str.{is_utf8}
 use Rattle.racer_base.specs.Outside.{same_name}
 use Rattle.racer_base.specs.declared.limits.TheConstants.{MAX_FILE_BYTES}
-use Rattle.racer_run.specs.declared.edit_lines.EditLine.{EditLine}
-use Rattle.racer_run.specs.declared.edit_lines.TheConstants.{MAX_EDITS}
-use Rattle.racer_run.specs.Edits.{Edit, NoEdits, TooLong, BadLine, begun, edit_of, edits_from, edits_in, is_edit}
-use Rattle.racer_run.specs.Edits.{is_space, is_word, lines, put}
-use Rattle.racer_run.specs.EditLines.{byte_is, seen}
+use Rattle.racer_run_edits.specs.declared.edit_lines.EditLine.{EditLine}
+use Rattle.racer_run_edits.specs.declared.edit_lines.TheConstants.{MAX_EDITS}
+use Rattle.racer_run_edits.specs.Edits.{Edit, NoEdits, TooLong, BadLine, begun, edit_of, edits_from, edits_in, is_edit}
+use Rattle.racer_run_edits.specs.Edits.{is_space, is_word, lines, put}
+use Rattle.racer_run_edits.specs.EditLines.{byte_is, seen}
 
 -- ---- lines
 

@@ -2,9 +2,9 @@ use Rattle.std.proofs.Common.{◌≡◌, ◌<◌, ◌≤◌, ℕ, length, subst,
 use Rattle.std.proofs.lemmas.Bool.{false_from_ne_true}
 use Rattle.std.proofs.lemmas.Str.{is_utf8-from_IsUtf8, IsUtf8-from_is_utf8}
 use Rattle.std.specs.Str.{is_utf8}
-use Rattle.racer_run.specs.EditLines.{byte_is}
-use Rattle.racer_run.proofs.EditLines.{no_spaced_word, no_unread_word, one_word, some_first, none_first}
-use Rattle.racer_run.proofs.edit_lines.word.Goals as goal
+use Rattle.racer_run_edits.specs.EditLines.{byte_is}
+use Rattle.racer_run_edits.proofs.EditLines.{no_spaced_word, no_unread_word, one_word, some_first, none_first}
+use Rattle.racer_run_edits.proofs.edit_lines.word.Goals as goal
 
 pub returns-then-first_of-bytes : goal.returns-then-first_of-bytes
 returns-then-first_of-bytes c =

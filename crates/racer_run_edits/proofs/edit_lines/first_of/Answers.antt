@@ -1,8 +1,8 @@
 use Rattle.std.proofs.Common.{◌≡◌, ◌<◌, ℕ, length, sym, arith}
 use Rattle.std.proofs.lemmas.Bool.Decides.{nat_tests}
 use Rattle.std.proofs.lemmas.List.Sums.{position_or_len_is}
-use Rattle.racer_run.specs.EditLines.{byte_is}
-use Rattle.racer_run.proofs.edit_lines.first_of.Goals as goal
+use Rattle.racer_run_edits.specs.EditLines.{byte_is}
+use Rattle.racer_run_edits.proofs.edit_lines.first_of.Goals as goal
 
 pub returns-then-byte-wanted-clause-place : goal.returns-then-byte-wanted-clause-place
 returns-then-byte-wanted-clause-place c =

@@ -1,7 +1,7 @@
 //! The edits that a file has, a line each.
 ghost use Rattle.std.specs.Prelude.{◌≡◌, ◌≤◌, length, map, option_map, string_bytes};
 ghost use Rattle.std.specs.List.{position_or_len};
-ghost use Rattle.racer_run.specs.EditLines.{byte_is, lines_cut, views, word_in, AreEdits, IsEdit};
+ghost use Rattle.racer_run_edits.specs.EditLines.{byte_is, lines_cut, views, word_in, AreEdits, IsEdit};
 
 use racer_base::{MAX_FILE_BYTES, Memory};
 use racer_sources::SourceFiles;
@@ -31,7 +31,7 @@ pub enum EditsFault {
 
 impl From<Memory> for EditsFault {
     ghost use Rattle.std.specs.Prelude.{◌≡◌};
-    ghost use Rattle.racer_run.specs.declared.edit_lines.EditsFault.TheVariants as fault;
+    ghost use Rattle.racer_run_edits.specs.declared.edit_lines.EditsFault.TheVariants as fault;
 
     ghost from_gives = { λ _ given. given ≡ fault.Memory };
 
@@ -42,7 +42,7 @@ impl From<Memory> for EditsFault {
 
 impl<T: Drop> From<AllocFailed<T>> for EditsFault {
     ghost use Rattle.std.specs.Prelude.{◌≡◌};
-    ghost use Rattle.racer_run.specs.declared.edit_lines.EditsFault.TheVariants as fault;
+    ghost use Rattle.racer_run_edits.specs.declared.edit_lines.EditsFault.TheVariants as fault;
 
     ghost from_gives = { λ _ given. given ≡ fault.Memory };
 

@@ -1,6 +1,6 @@
 use Rattle.std.proofs.Common.{map, string_bytes, rules}
-use Rattle.racer_run.proofs.EditLines.{makes_them}
-use Rattle.racer_run.proofs.edit_lines.edits_in.Goals as goal
+use Rattle.racer_run_edits.proofs.EditLines.{makes_them}
+use Rattle.racer_run_edits.proofs.edit_lines.edits_in.Goals as goal
 
 pub returns : goal.returns
 returns c =

@@ -1,12 +1,12 @@
--- No public contract rests on this: the edits of a file, as the code has them.
+-- A contract of a public call rests on this: `edits_in`. The edits of a file, as the code has them.
 use Rattle.std.specs.Prelude.{◌≡◌, ℕ, ◌<◌, Bool, true, false, List, [], ◌∷◌, Option, None, Some, Result, Ok, Err}
 use Rattle.std.specs.Prelude.{MatchOption, length, map, nat_eq, Vec}
 use Rattle.std.specs.Global.{Global}
 use Rattle.std.specs.Borrow.{Bor}
-use Rattle.racer_run.specs.declared.edit_lines.EditLine.{EditLine}
-use Rattle.racer_run.specs.declared.edit_lines.EditsFault.{EditsFault}
-use Rattle.racer_run.specs.declared.edit_lines.EditsFault.TheVariants as fault
-use Rattle.racer_run.specs.Edits.{Edit, NoEdits, TooLong, BadLine, edit_of, edits_in, is_edit, is_word, lines}
+use Rattle.racer_run_edits.specs.declared.edit_lines.EditLine.{EditLine}
+use Rattle.racer_run_edits.specs.declared.edit_lines.EditsFault.{EditsFault}
+use Rattle.racer_run_edits.specs.declared.edit_lines.EditsFault.TheVariants as fault
+use Rattle.racer_run_edits.specs.Edits.{Edit, NoEdits, TooLong, BadLine, edit_of, edits_in, is_edit, is_word, lines}
 
 abbrev pub byte_is : ℕ → ℕ → Bool
 byte_is wanted b = nat_eq b wanted
