@@ -3,9 +3,9 @@ use Rattle.std.proofs.Common.{◌≡◌, ℕ, zero, suc, ◌+◌, ◌<◌, ◌�
 use Rattle.std.proofs.Common.{Option, None, Some, Result, Ok, Err, refl, sym, ap, subst, ◌∙◌, arith, length, take, drop}
 use Rattle.std.proofs.Common.{◌++◌, map, get_or, option_map, string_bytes, codes, append_assoc, length-take, String}
 use Rattle.std.proofs.Common.{Vec, Global}
-use Rattle.std.specs.Prelude.{IfOk, IfErr, OnOk, All}
+use Rattle.std.specs.Prelude.{IfOk, IfErr, IsErrAnd, OnOk, All}
 use Rattle.std.specs.FinMap.{contains_key, get, insert}
-use Rattle.std.specs.List.{list_all, list_any}
+use Rattle.std.specs.List.{after_first, before_first, list_all, list_any}
 use Rattle.std.specs.Option.{is_some, IfSome}
 use Rattle.std.proofs.lemmas.Bool.Decides.{nat_tests}
 use Rattle.std.proofs.lemmas.List.{take_all, drop_more, length-map}
@@ -16,6 +16,7 @@ use Rattle.race_pairs.specs.Warnings.{warnings}
 use Rattle.racer_base.specs.Outside.{Files, Told, same_name}
 use Rattle.racer_base.specs.declared.limits.TheConstants.{MAX_FILE_BYTES}
 use Rattle.racer_base.specs.declared.outside.FolderFault.{FolderFault}
+use Rattle.racer_base.specs.declared.outside.FolderFault.TheVariants.{Memory}
 use Rattle.core_code.specs.Core.{Core}
 use Rattle.core_code.specs.Program.{core}
 use Rattle.core_code.specs.declared.program.Program.{Program}
@@ -239,14 +240,12 @@ goes_init None program edits last kept said same is = tt
 goes_init (Some t) program edits last kept said same is =
     λ are. goes_all t.files program (map seen edits) last kept said same is are
 
-pub goes_more : (o : Option Told) (program : Core) (edits : List EditLine) (i : ℕ) (d : EditLine)
-    (first old new : SourceFiles) (last next : Core) (said part both : RunOutput) → i < length edits
-    → GoesFrom o program edits i first last old said
-    → IfSome o (λ (t : Told). (now : Files) → AreKept now old
-    → IsStepSaid t.files now last (seen (get_or edits i d)) next new part)
-    → both ≡ with_behind said part → GoesFrom o program edits (i + 1) first next new both
-goes_more None program edits i d first old new last next said part both h before step is = tt
-goes_more (Some t) program edits i d first old new last next said part both h before step is =
+goes_there : (t : Told) (program : Core) (edits : List EditLine) (i : ℕ) (d : EditLine) (first old new : SourceFiles)
+    (last next : Core) (said part both : RunOutput) → i < length edits
+    → GoesFrom (Some t) program edits i first last old said
+    → ((now : Files) → AreKept now old → IsStepSaid t.files now last (seen (get_or edits i d)) next new part)
+    → both ≡ with_behind said part → GoesFrom (Some t) program edits (i + 1) first next new both
+goes_there t program edits i d first old new last next said part both h before step is =
     λ are.
     let left = map seen (drop (i + 1) edits) in
     let here : GoesOn t.files program (map seen edits) (seen (get_or edits i d) ∷ left) last old said =
@@ -255,6 +254,19 @@ goes_more (Some t) program edits i d first old new last next said part both h be
     subst (λ (s : RunOutput). GoesOn t.files program (map seen edits) left next new s) (sym is)
     (goes_one t.files program (map seen edits) left (seen (get_or edits i d)) last next old new said part here
     (step here.now here.kept_are))
+
+-- the folder tells at this edit what it told in the beginning
+pub goes_more : (o now : Option Told) (program : Core) (edits : List EditLine) (i : ℕ) (d : EditLine)
+    (first old new : SourceFiles) (last next : Core) (said part both : RunOutput) → now ≡ o → i < length edits
+    → GoesFrom o program edits i first last old said
+    → IfSome now (λ (t : Told). (files : Files) → AreKept files old
+    → IsStepSaid t.files files last (seen (get_or edits i d)) next new part)
+    → both ≡ with_behind said part → GoesFrom o program edits (i + 1) first next new both
+goes_more None now program edits i d first old new last next said part both same h before step is = tt
+goes_more (Some t) now program edits i d first old new last next said part both same h before step is =
+    goes_there t program edits i d first old new last next said part both h before
+    (subst (λ (o : Option Told). IfSome o (λ (u : Told). (files : Files) → AreKept files old
+    → IsStepSaid u.files files last (seen (get_or edits i d)) next new part)) same step) is
 
 pub goes_said : (o : Option Told) (program : Core) (edits : List EditLine) (i : ℕ) (first kept : SourceFiles)
     (last : Core) (said : RunOutput) → drop i edits ≡ [] → GoesFrom o program edits i first last kept said
@@ -282,15 +294,22 @@ seen_there files (edit ∷ edits) zero d h are = All-head (IsThere files) (seen 
 seen_there files (edit ∷ edits) (suc i) d h are =
     seen_there files edits i d (omega arith) (All-tail (IsThere files) (seen edit) (map seen edits) are)
 
-pub steady_step : {T : Type 0} (o now : Option Told) (edits : List EditLine) (i : ℕ) (d : EditLine)
-    (r : Result T FolderFault) → now ≡ o → i < length edits
-    → IfSome now (λ (t : Told). IsThere t.files (seen (get_or edits i d)) → FailsByMemory r)
-    → IfSome o (λ (t : Told). AreAllThere t.files (map seen edits) → FailsByMemory r)
-steady_step o None edits i d r same h fails =
-    subst (λ (v : Option Told). IfSome v (λ (t : Told). AreAllThere t.files (map seen edits) → FailsByMemory r)) same tt
-steady_step o (Some t) edits i d r same h fails =
-    subst (λ (v : Option Told). IfSome v (λ (u : Told). AreAllThere u.files (map seen edits) → FailsByMemory r)) same
-    (λ are. fails (seen_there t.files edits i d h are))
+-- what `?` gives is the same fault
+pub same_fault : {T : Type 0} (r : Result T FolderFault) (fault : FolderFault) → IsErrAnd r (λ given. given ≡ fault)
+    → fault ≡ Memory → FailsByMemory r
+same_fault (Ok x) fault given is = tt
+same_fault (Err e) fault given is = given ∙ is
+
+-- the folder tells at this edit what it told in the beginning
+pub steady_step : (o now : Option Told) (edits : List EditLine) (i : ℕ) (d : EditLine) (P Q : Type 0) → now ≡ o
+    → i < length edits → (P → Q) → IfSome now (λ (t : Told). IsThere t.files (seen (get_or edits i d)) → P)
+    → IfSome o (λ (t : Told). AreAllThere t.files (map seen edits) → Q)
+steady_step None now edits i d P Q same h leads fails = tt
+steady_step (Some t) now edits i d P Q same h leads fails =
+    λ are.
+    let here =
+    subst (λ (o : Option Told). IfSome o (λ (u : Told). IsThere u.files (seen (get_or edits i d)) → P)) same fails in
+    leads (here (seen_there t.files edits i d h are))
 
 -- ---- what is said behind a program
 
@@ -306,7 +325,9 @@ last_of false b c d e = absurd cc
 
 named : (sources : List (List ℕ)) (line : List ℕ) → is_edit sources line ≡ true
     → list_any (same_name (edit_of line).file) sources ≡ true
-named sources line e = last_of (list_any is_space line) (is_word _) (is_word _) _ e
+named sources line e =
+    last_of (list_any is_space line) (is_word (before_first is_space line)) (is_word (after_first is_space line))
+    (list_any (same_name (before_first is_space line)) sources) e
 
 put_named : (sources : List (List ℕ)) (line : List ℕ) (r : Result (List Edit) NoEdits) (edits : List Edit)
     → ((es : List Edit) → r ≡ Ok es → AreOf sources es) → is_edit sources line ≡ true
@@ -486,13 +507,3 @@ steady_edits (Some t) r wanted kept read are file fails =
     fails are (subst (AreThere t.files)
     (sym (ap (edits_in (source_names t.files)) (sym whole.2) ∙ front_edits (source_names t.files) whole.0))
     (has.named whole.0 whole.1))
-
-pub steady_read : {T : Type 0} (o : Option Told) (r : Result T FolderFault) (wanted : WantedEdits)
-    → IfSome o (λ (t : Told). IfSome (get t.files wanted.edits) (λ _. FailsByMemory r))
-    → IfSome o (λ (t : Told). wanted.folder ≡ t.name → HasEdits t.files wanted.edits → FailsByMemory r)
-steady_read None r wanted fails = tt
-steady_read (Some t) r wanted fails = λ same has. at (get t.files wanted.edits) has.there fails
-  where
-    at : (f : Option (List ℕ)) → is_some f ≡ true → IfSome f (λ _. FailsByMemory r) → FailsByMemory r
-    at None there fails = absurd cc
-    at (Some bytes) there fails = fails

@@ -1,4 +1,4 @@
-use Rattle.std.proofs.Common.{◌≡◌, ◌∙◌, List, Ok, ap, map, sym}
+use Rattle.std.proofs.Common.{◌≡◌, ◌∙◌, List, Ok, ap, map, rules, sym}
 use Rattle.core_code.specs.Program.{core}
 use Rattle.racer_run_edits.specs.declared.edit_lines.EditLine.{EditLine}
 use Rattle.racer_run_edits.specs.EditLines.{seen}
@@ -6,9 +6,11 @@ use Rattle.racer_run.proofs.EditSessions.{edits_said, edits_steady, no_edits_sai
 use Rattle.racer_run.proofs.sessions.behind_program.Goals as goal
 
 pub session_on-requires : goal.session_on-requires
-session_on-requires g c =
+session_on-requires g c = (
+    search rules,
     sources_named c.args.sources c.args.bytes.now c.as_slice.result.now
-    (c.in-Ok.ensures ∙ ap (λ (es : List EditLine). Ok (map seen es)) (sym c.as_slice.ensures.value))
+        (c.in-Ok.ensures ∙ ap (λ (es : List EditLine). Ok (map seen es)) (sym c.as_slice.ensures.value)),
+  )
 
 pub returns-in-Ok-clause-said : goal.returns-in-Ok-clause-said
 returns-in-Ok-clause-said g c =

@@ -14,18 +14,11 @@ use Rattle.racer_sources.specs.declared.kept.KeptProgram.{KeptProgram}
 use Rattle.racer_words.specs.Requests.{edits_of}
 use Rattle.racer_run_edits.specs.Edits.{edits_in}
 use Rattle.racer_run.specs.Sessions.{AreThere, IsSessionSaid}
-use Rattle.racer_run.proofs.EditSessions.{on_ok, says_edits, says_refused, steady_edits}
+use Rattle.racer_run.proofs.EditSessions.{says_edits, says_refused, steady_edits}
 use Rattle.racer_run.proofs.sessions.edited_on.Goals as goal
 
-pub returns-in-Accepted-clause-entered : goal.returns-in-Accepted-clause-entered
-returns-in-Accepted-clause-entered g c =
-    let tells = g.F.Folder.told c.args.folder.now in
-    on_ok _ c.behind_program.result
-    (subst (λ (name : List ℕ). IfSome tells (λ (t : Told). name ≡ t.name)) c.as_str.ensures
-    c.in_ok-program.ensures.entered)
-
-pub returns-in-Accepted-clause-said : goal.returns-in-Accepted-clause-said
-returns-in-Accepted-clause-said g c =
+pub returns-in_ok-bytes-in-Accepted-clause-said : goal.returns-in_ok-bytes-in-Accepted-clause-said
+returns-in_ok-bytes-in-Accepted-clause-said g c =
     let tells = g.F.Folder.told c.args.folder.now in
     let wanted = edits_of c.args.wanted.now in
     let program = core c.in-Accepted.program in
@@ -53,8 +46,8 @@ returns-in-Accepted-clause-said g c =
     says_edits tells result wanted program kept read (c.whole_warnings_race.ensures c.in-Accepted.program)
     (c.witnesses_in_reports_replay.ensures c.in-Accepted.program) source are file said
 
-pub returns-in-Accepted-clause-steady : goal.returns-in-Accepted-clause-steady
-returns-in-Accepted-clause-steady g c = λ steady.
+pub returns-in_ok-bytes-in-Accepted-clause-steady : goal.returns-in_ok-bytes-in-Accepted-clause-steady
+returns-in_ok-bytes-in-Accepted-clause-steady g c = λ steady.
     let tells = g.F.Folder.told c.args.folder.now in
     let wanted = edits_of c.args.wanted.now in
     let kept = c.in-Accepted.sources in
