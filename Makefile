@@ -2,7 +2,7 @@
 # man page and the completions for bash. The program is built where it is not there: see docs/INSTALL.md.
 PREFIX = /usr/local
 to = $(DESTDIR)$(PREFIX)
-scripts = racer-diff racer-history racer-html racer-packages racer-sarif racer-summary racer-witness
+scripts = racer-diff racer-history racer-html racer-packages racer-sarif racer-summary racer-try racer-witness
 modules = $(wildcard $(foreach of,java_*.py package_*.py page.* page_* report_*.py script_*.py witness_*.py,tools/lib/$(of)))
 
 .PHONY: install uninstall

@@ -9,7 +9,7 @@ _racer() {
     racer-packages) words='--jobs --leave-out-refused --racer --unproved --commands --collect --version --help' ;;
     racer-sarif) words='--by-field --category --docs --under --sources --version --help' ;;
     racer-summary) words='--all --under --sources --version --help' ;;
-    racer-try) words='--whole --racer --unproved --version --help' ;;
+    racer-try) words='--as --whole --racer --unproved --version --help' ;;
     racer-witness) words='--turns --agree --replay --again --sources --under --racer --unproved --version --help' ;;
     esac
     case $current in
