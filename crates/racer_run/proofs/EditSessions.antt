@@ -3,13 +3,13 @@ use Rattle.std.proofs.Common.{◌≡◌, ℕ, zero, suc, ◌+◌, ◌<◌, ◌�
 use Rattle.std.proofs.Common.{Option, None, Some, Result, Ok, Err, refl, sym, ap, subst, ◌∙◌, arith, length, take, drop}
 use Rattle.std.proofs.Common.{◌++◌, map, get_or, option_map, string_bytes, codes, append_assoc, length-take, String}
 use Rattle.std.proofs.Common.{Vec, Global}
-use Rattle.std.specs.Prelude.{IfOk, IfErr, IsErrAnd, OnOk, All}
+use Rattle.std.specs.Prelude.{IfOk, IsErrAnd, OnOk, All}
 use Rattle.std.specs.FinMap.{contains_key, get, insert}
 use Rattle.std.specs.List.{after_first, before_first, list_all, list_any}
 use Rattle.std.specs.Option.{is_some, IfSome}
 use Rattle.std.proofs.lemmas.Bool.Decides.{nat_tests}
-use Rattle.std.proofs.lemmas.List.{take_all, drop_more, length-map}
-use Rattle.std.proofs.lemmas.List.Elements.{All-nil, All-cons, All-head, All-tail, All-get_or}
+use Rattle.std.proofs.lemmas.List.{take_all, drop_more}
+use Rattle.std.proofs.lemmas.List.Elements.{All-nil, All-cons, All-head, All-tail}
 use Rattle.container_cells.specs.declared.cell.Containers.TheVariants.{Opaque}
 use Rattle.race_pairs.specs.declared.warning.Warning.{Warning}
 use Rattle.race_pairs.specs.Warnings.{warnings}
@@ -22,7 +22,7 @@ use Rattle.core_code.specs.Program.{core}
 use Rattle.core_code.specs.declared.program.Program.{Program}
 use Rattle.racer_sources.specs.Contents.{front}
 use Rattle.racer_sources.specs.Finding.{FailsByMemory, KeepsMeaning}
-use Rattle.racer_sources.specs.Kept.{AreKept, HasKept, source_kept}
+use Rattle.racer_sources.specs.Kept.{AreKept}
 use Rattle.racer_sources.specs.Programs.{Source, Refusal, Accepted, IsSource, source_of}
 use Rattle.racer_sources.specs.Sources.{source_names, bytes_of}
 use Rattle.racer_sources.specs.declared.programs.FoundProgram.{FoundProgram}
@@ -37,16 +37,15 @@ use Rattle.racer_run_edits.specs.declared.edit_lines.EditLine.{EditLine}
 use Rattle.racer_run_edits.specs.declared.edit_lines.EditsFault.{EditsFault}
 use Rattle.racer_run_edits.specs.declared.edit_lines.EditsFault.TheVariants as fault
 use Rattle.racer_run.specs.declared.output.RunOutput.{RunOutput}
-use Rattle.racer_run.specs.declared.status.Status.{Status}
 use Rattle.racer_run.specs.declared.status.Status.TheVariants.{NotEdits, Refused}
 use Rattle.racer_run_edits.specs.EditLines.{seen, AreEdits}
 use Rattle.racer_run_edits.specs.Edits.{Edit, NoEdits, TooLong, BadLine, edit_of, edits_from, edits_in, is_edit, is_space}
 use Rattle.racer_run_edits.specs.Edits.{is_word, lines, put}
 use Rattle.racer_run.specs.RunOutputs.{said_from, report_status, HasHeadline, HasReplays}
-use Rattle.racer_run.specs.Sessions.{AreSources, AreEditsSaid, IsSessionSaid, IsEditsSaid, SaysEdits, HasEdits}
-use Rattle.racer_run.specs.Sessions.{AreThere, IsStep, IsStepSaid, IsSourceOf, AreSourcesOf, IsThere, AreAllThere}
-use Rattle.racer_run.specs.Sessions.{IsNotEdits, IsWhyPut, analysed_line, edited, edit_line, edit_said, not_edits, plain_mode}
-use Rattle.racer_run.specs.Sessions.{program_behind, refused_line, said_behind, session_text, why_text, with_behind}
+use Rattle.racer_run.specs.Sessions.{AreSources, AreEditsSaid, IsSessionSaid, SaysEdits, HasEdits}
+use Rattle.racer_run.specs.Sessions.{AreThere, IsStepSaid, IsSourceOf, AreSourcesOf, IsThere, AreAllThere}
+use Rattle.racer_run.specs.Sessions.{IsNotEdits, IsWhyPut, analysed_line, edited, edit_line, edit_said, plain_mode}
+use Rattle.racer_run.specs.Sessions.{program_behind, said_behind, session_text, why_text, with_behind}
 use Rattle.racer_run.specs.Statuses.{is_edits_status}
 
 pub if_ok : {T E : Type 0} (r : Result T E) (x : T) (P : T → Type 0) → P x → IfOk r (λ y. y ≡ x) → IfOk r P

@@ -1,11 +1,10 @@
 -- Where the sources of a folder are one thing, what is said of a session of edits is one.
 use Rattle.std.proofs.Common.{◌≡◌, ℕ, List, [], ◌∷◌, Result, Ok, Err, Some, refl, sym, ap, subst, ◌∙◌}
-use Rattle.std.specs.FinMap.{get}
 use Rattle.container_cells.specs.declared.cell.Containers.TheVariants.{Opaque}
 use Rattle.core_code.specs.Core.{Core}
 use Rattle.racer_base.specs.Outside.{Files}
 use Rattle.racer_sources.specs.OneReading.{OneSource}
-use Rattle.racer_sources.specs.Programs.{Source, IsSource, Refusal, Accepted}
+use Rattle.racer_sources.specs.Programs.{Source, Refusal, Accepted}
 use Rattle.racer_sources.specs.Sources.{source_names}
 use Rattle.racer_words.specs.Words.{WantedEdits}
 use Rattle.racer_run.specs.declared.output.RunOutput.{RunOutput}

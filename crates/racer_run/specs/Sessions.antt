@@ -16,7 +16,6 @@ use Rattle.racer_sources.specs.declared.source_files.SourceFiles.{SourceFiles}
 use Rattle.racer_words.specs.Words.{WantedEdits}
 use Rattle.transfer_ties.specs.Again.{again}
 use Rattle.racer_run.specs.declared.output.RunOutput.{RunOutput}
-use Rattle.racer_run.specs.declared.status.Status.{Status}
 use Rattle.racer_run.specs.declared.status.Status.TheVariants.{NotEdits, Refused}
 use Rattle.racer_run_edits.specs.declared.edit_lines.EditLine.{EditLine}
 use Rattle.racer_run_edits.specs.declared.edit_lines.EditsFault.{EditsFault}

@@ -1,4 +1,4 @@
-use Rattle.std.proofs.Common.{◌≡◌, ◌∙◌, List, Ok, ap, map, rules, sym}
+use Rattle.std.proofs.Common.{◌∙◌, List, Ok, ap, map, rules, sym}
 use Rattle.core_code.specs.Program.{core}
 use Rattle.racer_run_edits.specs.declared.edit_lines.EditLine.{EditLine}
 use Rattle.racer_run_edits.specs.EditLines.{seen}

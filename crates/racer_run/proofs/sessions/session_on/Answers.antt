@@ -1,4 +1,4 @@
-use Rattle.std.proofs.Common.{◌≡◌, ◌∙◌, ap, refl, rules, true}
+use Rattle.std.proofs.Common.{◌≡◌, ◌∙◌, ap, refl, rules}
 use Rattle.std.proofs.lemmas.List.{drop_all}
 use Rattle.core_code.specs.Program.{core}
 use Rattle.edit_session.specs.Sessions.{program_in}
