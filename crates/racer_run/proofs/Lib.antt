@@ -7,3 +7,4 @@ mod Tails
 mod JsonBytes
 mod CutWitnesses
 mod EditSessions
+mod EditRequests

@@ -1,7 +1,7 @@
 mod SortedNames
 mod Fronts
 mod Added
-mod Faults
+pub mod Faults
 mod There
 mod Together
 mod OneRefusal

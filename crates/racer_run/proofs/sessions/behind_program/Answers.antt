@@ -2,15 +2,16 @@ use Rattle.std.proofs.Common.{◌∙◌, List, Ok, ap, map, rules, sym}
 use Rattle.core_code.specs.Program.{core}
 use Rattle.racer_run_edits.specs.declared.edit_lines.EditLine.{EditLine}
 use Rattle.racer_run_edits.specs.EditLines.{seen}
-use Rattle.racer_run.proofs.EditSessions.{edits_said, edits_steady, no_edits_said, not_edits_status, sources_named}
+use Rattle.racer_run.proofs.EditSessions.{not_edits_status}
+use Rattle.racer_run.proofs.EditRequests.{edits_said, edits_steady, no_edits_said, sources_named}
 use Rattle.racer_run.proofs.sessions.behind_program.Goals as goal
 
 pub session_on-requires : goal.session_on-requires
 session_on-requires g c = (
-    search rules,
-    sources_named c.args.sources c.args.bytes.now c.as_slice.result.now
-        (c.in-Ok.ensures ∙ ap (λ (es : List EditLine). Ok (map seen es)) (sym c.as_slice.ensures.value)),
-  )
+  search rules,
+  sources_named c.args.sources c.args.bytes.now c.as_slice.result.now
+      (c.in-Ok.ensures ∙ ap (λ (es : List EditLine). Ok (map seen es)) (sym c.as_slice.ensures.value)),
+)
 
 pub returns-in-Ok-clause-said : goal.returns-in-Ok-clause-said
 returns-in-Ok-clause-said g c =

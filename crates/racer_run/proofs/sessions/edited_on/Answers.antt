@@ -14,7 +14,7 @@ use Rattle.racer_sources.specs.declared.kept.KeptProgram.{KeptProgram}
 use Rattle.racer_words.specs.Requests.{edits_of}
 use Rattle.racer_run_edits.specs.Edits.{edits_in}
 use Rattle.racer_run.specs.Sessions.{AreThere, IsSessionSaid}
-use Rattle.racer_run.proofs.EditSessions.{says_edits, says_refused, steady_edits}
+use Rattle.racer_run.proofs.EditRequests.{says_edits, says_refused, steady_edits}
 use Rattle.racer_run.proofs.sessions.edited_on.Goals as goal
 
 pub returns-in_ok-bytes-in-Accepted-clause-said : goal.returns-in_ok-bytes-in-Accepted-clause-said

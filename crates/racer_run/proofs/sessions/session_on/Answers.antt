@@ -6,7 +6,8 @@ use Rattle.racer_base.specs.declared.outside.FolderFault.TheVariants.{Memory}
 use Rattle.racer_sources.specs.Finding.{FailsByMemory}
 use Rattle.racer_run.specs.declared.output.RunOutput.{RunOutput}
 use Rattle.racer_run.specs.Statuses.{is_edits_status}
-use Rattle.racer_run.proofs.EditSessions.{goes_init, goes_more, goes_said, keeps_on, report_status_said, steady_step}
+use Rattle.racer_sources.proofs.Faults.{keeps_on}
+use Rattle.racer_run.proofs.EditSessions.{goes_init, goes_more, goes_said, report_status_said, steady_step}
 use Rattle.racer_run.proofs.EditSessions.{same_fault, still_named}
 use Rattle.racer_run.proofs.sessions.session_on.Goals as goal
 
@@ -25,10 +26,10 @@ loop-edit-init g c =
 
 pub edited-requires : goal.edited-requires
 edited-requires g c = (
-    search rules,
-    still_named c.args.sources c.loop-edit.sources c.args.edits.now c.loop-edit.edit-index _
-        c.loop-edit.invariant.names c.loop-edit-test.true c.requires,
-  )
+  search rules,
+  still_named c.args.sources c.loop-edit.sources c.args.edits.now c.loop-edit.edit-index _
+      c.loop-edit.invariant.names c.loop-edit-test.true c.requires,
+)
 
 pub returns-in_err-part-clause-steady : goal.returns-in_err-part-clause-steady
 returns-in_err-part-clause-steady g c = λ steady.
