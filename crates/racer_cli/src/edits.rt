@@ -1,9 +1,10 @@
 //! Tests of sessions of edits, each a row of words and files with what is to come of it.
 use super::*;
 use crate::tests::{Case, FAULT, PLAIN, held};
-use racer_base::Memory;
 use std::alloc::Global;
+use std::sync::Wait;
 use std::test::Fail;
+use std::thread::Threads;
 
 const DINNER: &[u8] = b"@ThreadSafe\npublic class Dinner {\n\
     \x20 private int mTemperature;\n\
@@ -49,8 +50,7 @@ const SHIFTED_REPORT: &str = "racer report 1\nfiles 1 classes 1 methods 3\n\
     \x20mark confirmed\n first 0 turns - steps 4\n second 1 turns - steps 4\n\
     warnings 1 confirmed 1\n";
 
-const QUIET_REPORT: &str =
-    "racer report 1\nfiles 1 classes 1 methods 3\nwarnings 0 confirmed 0\n";
+const QUIET_REPORT: &str = "racer report 1\nfiles 1 classes 1 methods 3\nwarnings 0 confirmed 0\n";
 
 /// A session over the files that follow.
 const SESSION: Case = Case {
@@ -78,12 +78,15 @@ const LINES: &[(&[u8], &[u8])] = &[
     (b"Dinner.jav e\n", b"not edits: line 1\n"),
     (b"Dinner.java \xff\n", b"not edits: line 1\n"),
     (b"\xff e\n", b"not edits: line 1\n"),
-    (b"Dinner.java Dinner.java\nDinner.java ", b"not edits: line 2\n"),
+    (
+        b"Dinner.java Dinner.java\nDinner.java ",
+        b"not edits: line 2\n",
+    ),
 ];
 
 /// How many of these are answered so.
-fn refused(
-    rt: &HostRuntime,
+fn refused<R: Threads + Wait + Sync>(
+    rt: &R,
     alloc: Global,
     lines: &[(&[u8], &[u8])],
 ) -> Result<usize, Fail> {
@@ -106,7 +109,7 @@ fn lines_that_are_no_edits(rt: HostRuntime) -> Result<(), Fail> {
 }
 
 /// So many times the same line, and the last one without its line feed.
-fn repeated(alloc: Global, line: &str, count: usize) -> Result<String, Memory> {
+fn repeated(alloc: Global, line: &str, count: usize) -> Result<String, Fail> {
     let mut text = String::new(alloc);
     for number in 0..count {
         if number > 0 {
@@ -118,7 +121,7 @@ fn repeated(alloc: Global, line: &str, count: usize) -> Result<String, Memory> {
 }
 
 /// The report, and so often what is said of an edit that changes nothing.
-fn repeated_report(alloc: Global, count: usize) -> Result<String, Memory> {
+fn repeated_report(alloc: Global, count: usize) -> Result<String, Fail> {
     let mut text = String::from_str(alloc, REPORT)?;
     for _edit in 0..count {
         text.push_str("edit Dinner.java analysed 0\n")?;
@@ -151,7 +154,7 @@ fn most_edits(rt: HostRuntime) -> Result<(), Fail> {
 }
 
 /// Texts in a row.
-fn joined(alloc: Global, texts: &[&str]) -> Result<String, Memory> {
+fn joined(alloc: Global, texts: &[&str]) -> Result<String, Fail> {
     let mut all = String::new(alloc);
     for text in texts {
         all.push_str(text)?;
@@ -289,7 +292,7 @@ fn faults_of_the_folder(rt: HostRuntime) -> Result<(), Fail> {
 }
 
 /// So many spaces.
-fn spaces(alloc: Global, count: usize) -> Result<Vec<u8>, Memory> {
+fn spaces(alloc: Global, count: usize) -> Result<Vec<u8>, Fail> {
     Ok(vec![in alloc; b' '; count]?)
 }
 
@@ -298,7 +301,10 @@ fn long_files(rt: HostRuntime) -> Result<(), Fail> {
     let alloc = rt.alloc();
     let whole = spaces(alloc, 1_048_576)?;
     let longer = spaces(alloc, 1_048_577)?;
-    let too_long = joined(alloc, &[REPORT, "edit Dinner.java\nrefused Dinner.java too long\n"])?;
+    let too_long = joined(
+        alloc,
+        &[REPORT, "edit Dinner.java\nrefused Dinner.java too long\n"],
+    )?;
     let empty = joined(
         alloc,
         &[
