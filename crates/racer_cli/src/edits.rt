@@ -1,6 +1,6 @@
 //! Tests of sessions of edits, each a row of words and files with what is to come of it.
 use super::*;
-use crate::tests::{Case, FAULT, PLAIN, held};
+use crate::tests::{Case, FAULT, PLAIN, held, holds};
 use std::alloc::Global;
 use std::sync::Wait;
 use std::test::Fail;
@@ -84,22 +84,45 @@ const LINES: &[(&[u8], &[u8])] = &[
     ),
 ];
 
-/// How many of these are answered so.
+/// Dinner, a file of these bytes, and a file of edits.
+fn files<'a>(
+    alloc: Global,
+    dinner: &'a [u8],
+    tried: &'a [u8],
+    edits: &'a [u8],
+) -> Result<Vec<(&'a str, &'a [u8])>, Fail> {
+    let mut files = Vec::new(alloc);
+    files.push(("Dinner.java", dinner))?;
+    files.push(("x", tried))?;
+    files.push(("e", edits))?;
+    Ok(files)
+}
+
+/// Whether the row holds over these files, in place of its own.
+fn holds_over<R: Threads + Wait + Sync>(
+    rt: &R,
+    alloc: Global,
+    tried: &[u8],
+    edits: &[u8],
+    row: &Case,
+) -> Result<bool, Fail> {
+    let files = files(alloc, DINNER, tried, edits)?;
+    let files = files.as_slice();
+    holds(rt, alloc, &Case { files, ..*row })
+}
+
+/// How many of these are answered so, before the first that is not.
 fn refused<R: Threads + Wait + Sync>(
     rt: &R,
     alloc: Global,
     lines: &[(&[u8], &[u8])],
 ) -> Result<usize, Fail> {
-    let mut count = 0;
-    for (edits, text) in lines {
-        let case = Case {
-            files: &[("Dinner.java", DINNER), ("e", *edits)],
-            text: *text,
-            ..NONE
-        };
-        count = held(rt, alloc, &[case])?.saturating_add(count);
+    for (i, (edits, text)) in lines.iter().enumerate() {
+        if !holds_over(rt, alloc, QUIET, edits, &Case { text, ..NONE })? {
+            return Ok(i);
+        }
     }
-    Ok(count)
+    Ok(lines.len())
 }
 
 #[test]
@@ -136,20 +159,17 @@ fn most_edits(rt: HostRuntime) -> Result<(), Fail> {
     let edits = repeated(alloc, "Dinner.java Dinner.java", 64)?;
     let more = repeated(alloc, "Dinner.java Dinner.java", 65)?;
     let text = repeated_report(alloc, 64)?;
-    let cases = [
-        Case {
-            files: &[("Dinner.java", DINNER), ("e", edits.as_str().as_bytes())],
-            status: Status::Warned,
-            text: text.as_str().as_bytes(),
-            ..SESSION
-        },
-        Case {
-            files: &[("Dinner.java", DINNER), ("e", more.as_str().as_bytes())],
-            text: b"not edits: line 65\n",
-            ..NONE
-        },
-    ];
-    assert!(rt; held(&rt, alloc, &cases)? == cases.len());
+    let most = Case {
+        status: Status::Warned,
+        text: text.as_str().as_bytes(),
+        ..SESSION
+    };
+    let one_more = Case {
+        text: b"not edits: line 65\n",
+        ..NONE
+    };
+    assert!(rt; holds_over(&rt, alloc, QUIET, edits.as_str().as_bytes(), &most)?);
+    assert!(rt; holds_over(&rt, alloc, QUIET, more.as_str().as_bytes(), &one_more)?);
     Ok(())
 }
 
@@ -313,37 +333,26 @@ fn long_files(rt: HostRuntime) -> Result<(), Fail> {
             "racer report 1\nfiles 1 classes 0 methods 0\nwarnings 0 confirmed 0\n",
         ],
     )?;
-    let cases = [
-        Case {
-            files: &[("Dinner.java", DINNER), ("e", whole.as_slice())],
-            text: b"not edits: line 1\n",
-            ..NONE
-        },
-        Case {
-            files: &[("Dinner.java", DINNER), ("e", longer.as_slice())],
-            text: b"not edits: length\n",
-            ..NONE
-        },
-        Case {
-            files: &[
-                ("Dinner.java", DINNER),
-                ("x", longer.as_slice()),
-                ("e", b"Dinner.java x\n"),
-            ],
-            status: Status::Refused,
-            text: too_long.as_str().as_bytes(),
-            ..SESSION
-        },
-        Case {
-            files: &[
-                ("Dinner.java", DINNER),
-                ("x", whole.as_slice()),
-                ("e", b"Dinner.java x\n"),
-            ],
-            text: empty.as_str().as_bytes(),
-            ..SESSION
-        },
-    ];
-    assert!(rt; held(&rt, alloc, &cases)? == cases.len());
+    let line = Case {
+        text: b"not edits: line 1\n",
+        ..NONE
+    };
+    let length = Case {
+        text: b"not edits: length\n",
+        ..NONE
+    };
+    let refused = Case {
+        status: Status::Refused,
+        text: too_long.as_str().as_bytes(),
+        ..SESSION
+    };
+    let accepted = Case {
+        text: empty.as_str().as_bytes(),
+        ..SESSION
+    };
+    assert!(rt; holds_over(&rt, alloc, QUIET, whole.as_slice(), &line)?);
+    assert!(rt; holds_over(&rt, alloc, QUIET, longer.as_slice(), &length)?);
+    assert!(rt; holds_over(&rt, alloc, longer.as_slice(), b"Dinner.java x\n", &refused)?);
+    assert!(rt; holds_over(&rt, alloc, whole.as_slice(), b"Dinner.java x\n", &accepted)?);
     Ok(())
 }
