@@ -2,7 +2,7 @@
 _racer() {
     local current=${COMP_WORDS[COMP_CWORD]} words=
     case ${COMP_WORDS[0]##*/} in
-    racer) words='--workers --json --summaries --history --containers --replay --edits --made --program --unproved --version --help' ;;
+    racer) words='--workers --json --summaries --history --containers --typed --replay --edits --made --program --unproved --version --help' ;;
     racer-diff) words='--ignore --kept --list --sources --version --help' ;;
     racer-history) words='--workers --methods --rows --version --help' ;;
     racer-html) words='--under --sources --baseline --link -o --version --help' ;;

@@ -1,5 +1,6 @@
 """Reports of racer as JSON, and the folders of them that racer-packages makes, as the other scripts read them."""
 import dataclasses
+import itertools
 import json
 import os
 import re
@@ -10,7 +11,8 @@ import sys
 MANIFEST = "racer.packages"
 REPORT, OBJECT, STATUS, FACTS = "racer.report", "racer.json", "racer.status", "racer.package"
 
-# A line of a history, which may stand behind a report.
+# A line of --typed and a line of a history, which may stand behind a report in this order.
+TYPING = re.compile(r"typed (?P<typed>\S+)|untyped (?P<untyped>\S+) (?P<place>.+:\d+:\d+)")
 EVENT = re.compile(r"(?:take|publish) \S+ \S+|park \S+ \S+ \S+|leave \S+")
 
 # A refusal that names a file: the file, its place if it has one, and why.
@@ -31,8 +33,9 @@ class Report:
 
     `package` tells it from others, `under` is what stands before its files' names, `sources` is the folder that its
     files are in, where it is known, and `left_out` has the files that racer was not given, each with its place and the
-    reason. Of a package the checked classes are known, with what else racer-packages tells, and files in subfolders are
-    not meant. `known` has its types, once they are read (report_types), and `words` name it for racer-witness.
+    reason. `typings` has the place of each class that --typed tells of, empty where it is typed. Of a package the
+    checked classes are known, with what else racer-packages tells, and files in subfolders are not meant. `known` has
+    its types, once they are read (report_types), and `words` name it for racer-witness.
     """
 
     package: str
@@ -46,6 +49,7 @@ class Report:
     facts: dict = None
     known: object = None
     words: str = ""
+    typings: dict = dataclasses.field(default_factory=dict)
 
 
 def has_containers(report):
@@ -85,18 +89,20 @@ def warning_has_form(warning):
 
 
 def read_object(text, name):
-    """The report that a text is, or the line that stands in its place: one of the two."""
+    """The report that a text is, or the line that stands in its place, one of the two; and what --typed tells."""
     line = text[:-1]
     if text.startswith("refused ") and text.endswith("\n") and "\n" not in line:
-        return None, line
+        return None, line, {}
     try:
         report, end = json.JSONDecoder().raw_decode(text)
         good = isinstance(report, dict) and has_form(report)
     except (ValueError, KeyError, TypeError, RecursionError) as fault:
         raise Fault(f"{name}: no report of racer --json: {first_line(text) or repr(fault)}") from fault
-    if not good or not all(EVENT.fullmatch(event) for event in filter(None, text[end:].split("\n"))):
-        raise Fault(f"{name}: no report of racer --json, which has other members, and nothing but a history behind it")
-    return report, ""
+    lines = [line for line in text[end:].split("\n") if line] if good else []
+    found = [TYPING.fullmatch(line) for line in itertools.takewhile(TYPING.fullmatch, lines)]
+    if not good or not all(map(EVENT.fullmatch, lines[len(found):])):
+        raise Fault(f"{name}: no report of racer --json, which has other members, and typings and a history behind it")
+    return report, "", {one["typed"] or one["untyped"]: one["place"] or "" for one in found}
 
 
 def first_line(text):
@@ -141,12 +147,13 @@ def read_package(out, tree, package):
     facts = read_json(os.path.join(folder, FACTS))
     text = read_text(os.path.join(folder, OBJECT))
     under, sources = folder_prefix(package), joined(tree, package)
-    report, refusal = None, first_line(text) or "nothing was said"
+    report, refusal, typings = None, first_line(text) or "nothing was said", {}
     if facts["status"] in (0, 1):
-        report, refusal = read_object(text, os.path.join(folder, OBJECT))
+        report, refusal, typings = read_object(text, os.path.join(folder, OBJECT))
     elif facts["status"] != 5:
         refusal = f"status {facts['status']}: {refusal}"
-    return Report(package, under, sources, report, refusal, facts["left_out"], facts["checked"], True, facts)
+    left_out, checked = facts["left_out"], facts["checked"]
+    return Report(package, under, sources, report, refusal, left_out, checked, True, facts, typings=typings)
 
 
 def read_packages(out, under, sources):
@@ -169,10 +176,10 @@ def read_reports(name, under=None, sources=None):
         if not os.path.exists(os.path.join(name, MANIFEST)):
             raise Fault(f"{name}: a folder that racer-packages did not make: it has no {MANIFEST}")
         return read_packages(name, under, sources)
-    report, refusal = read_object(read_text(name), "standard input" if name == "-" else name)
+    report, refusal, typings = read_object(read_text(name), "standard input" if name == "-" else name)
     prefix = folder_prefix(under if under is not None else sources or "")
     words = shlex.quote(name) if name != "-" else ""
-    return [Report(prefix.rstrip("/"), prefix, sources, report, refusal, [], words=words)]
+    return [Report(prefix.rstrip("/"), prefix, sources, report, refusal, [], words=words, typings=typings)]
 
 
 def read_named(words):

@@ -23,7 +23,7 @@ use Rattle.core_semantics.specs.Steps.{inner_step, monitor_of}
 
 -- Of the frames of a method: what may be known of their variables and stack; that it is so; what is known at the entry;
 -- and what a returned value is like. What the store is like; what is known before and after an operation, and before
--- and after a lock is popped; and whether a step may be stuck.
+-- and after a lock is popped; and for which reasons a step may be stuck.
 pub record Kinding (core : Core) : Type 1 where
   pub Known : Type 0
   pub IsSo : Method → Known → List Value → List Value → Type 0
@@ -32,7 +32,7 @@ pub record Kinding (core : Core) : Type 1 where
   pub IsStored : Store → Type 0
   pub IsAfter : Method → CoreOp → Known → Known → Type 0
   pub IsUnder : Method → Known → Known → Type 0
-  pub MayStick : Type 0
+  pub MayStick : Why → Type 0
 
 -- ---- code
 
@@ -147,13 +147,13 @@ pub record IsState (core : Core) (k : Kinding core) (s : State) : Type 0 where
 -- what comes of a step
 abbrev pub StepKeeps : {X : Type 0} → (core : Core) → Kinding core → (X → Type 0) → Next X → Type 0
 StepKeeps core k Is (Goes next) = Is next
-StepKeeps core k Is (Sticks why) = k.MayStick
+StepKeeps core k Is (Sticks why) = k.MayStick why
 StepKeeps core k Is (Waits monitor) = Unit {0}
 StepKeeps core k Is Ends = Unit {0}
 
 abbrev pub MayHalt : (core : Core) → Kinding core → Halt → Type 0
 MayHalt core k NoTurn = Unit {0}
-MayHalt core k (StuckFor why) = k.MayStick
+MayHalt core k (StuckFor why) = k.MayStick why
 MayHalt core k (HeldBy monitor) = Unit {0}
 MayHalt core k HasEnded = Unit {0}
 
@@ -178,11 +178,11 @@ pub record IsInner (core : Core) (k : Kinding core) (method : Method) (known : k
 
 abbrev pub HasObject : (core : Core) → Kinding core → Result Object Why → Type 0
 HasObject core k (Ok o) = Unit {0}
-HasObject core k (Err why) = k.MayStick
+HasObject core k (Err why) = k.MayStick why
 
 abbrev pub HasMonitor : (core : Core) → Kinding core → Result Holder Why → Type 0
 HasMonitor core k (Ok monitor) = Unit {0}
-HasMonitor core k (Err why) = k.MayStick
+HasMonitor core k (Err why) = k.MayStick why
 
 -- The method that a call names; what it is entered with; the receiver, where there is one; and what is known when it
 -- has given a value back.

@@ -78,5 +78,5 @@ object_kinds core roots =
       IsStored = AreStored core roots;
       IsAfter = IsAfter core;
       IsUnder = λ method ks under. IsUnder ks under;
-      MayStick = Unit {0};
+      MayStick = λ why. Unit {0};
     }

@@ -13,6 +13,7 @@ pub mod NumberRuns
 pub mod SignRuns
 pub mod Calm
 pub mod JavaScans
+pub mod Marks
 pub mod EscapeFronts
 pub mod QuotedItems
 pub mod TextItems

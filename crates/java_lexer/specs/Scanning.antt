@@ -1,9 +1,9 @@
 -- No public contract rests on this: what the code computes of the front of a text, and tables by the first byte. What a
 -- text is read as is said without any of it.
 use Rattle.std.specs.Prelude.{◌≡◌, ℕ, suc, ◌<◌, ◌≤◌, Bool, false, ◌&&◌, ◌||◌, List, [], ◌∷◌, length, take, filter}
-use Rattle.std.specs.Prelude.{Option, Some, None, Result, Ok, Err, nat_eq, ◌==◌, if◌then◌else◌}
+use Rattle.std.specs.Prelude.{Option, Some, None, Result, Ok, Err, codes, nat_eq, ◌==◌, if◌then◌else◌}
 use Rattle.std.specs.Str.{byte}
-use Rattle.std.specs.List.{starts_with}
+use Rattle.std.specs.List.{list_any, starts_with}
 use Rattle.racer_base.specs.Name.{keywords}
 use Rattle.java_lexer.specs.declared.piece.PieceKind.{PieceKind}
 use Rattle.java_lexer.specs.declared.piece.LexicalFault.{LexicalFault}
@@ -25,6 +25,10 @@ keywords_with first = filter (begins_with first) keywords
 -- the signs with this first byte
 unfoldable pub signs_with : ℕ → List (List ℕ)
 signs_with first = filter (begins_with first) signs
+
+-- a sign with which no longer piece begins
+abbrev pub is_mark : ℕ → Bool
+is_mark b = list_any (nat_eq b) (codes "(){}[];,@~?")
 
 -- the length of the first of these texts that begins the bytes
 abbrev pub first_len : List (List ℕ) → List ℕ → Option ℕ

@@ -20,7 +20,7 @@ use std::alloc::Global;
 fn is_shift(bytes: &[u8]) -> bool
     ensures { result ≡ is_listed shifts bytes.now }
 {
-    bytes == b">>".as_slice() || bytes == b">>>".as_slice()
+    matches!(bytes, [b'>', b'>'] | [b'>', b'>', b'>'])
 }
 
 /// Puts a token `>` for each byte at the end; each but the first is glued.

@@ -8,7 +8,7 @@ use crate::comments::{block_comment, line_comment};
 use crate::literals::{character, text};
 use crate::numbers::{begins_hex, begins_number, number_len};
 use crate::piece::{LexicalFault, PieceKind};
-use crate::signs::sign_len;
+use crate::signs::{is_mark, sign_len};
 use crate::words::{is_letter, is_white, word_kind, word_len};
 
 /// The length and the kind of the piece in front, or the fault that is named there.
@@ -26,6 +26,9 @@ pub fn next_piece(bytes: &[u8]) -> Result<(usize, PieceKind), LexicalFault>
         let len = 1 + word_len(rest);
         let (word, _) = bytes.split_at(len);
         return Ok((len, PieceKind::Token(word_kind(word))));
+    }
+    if is_mark(*first) {
+        return Ok((1, PieceKind::Token(TokenKind::Sign)));
     }
     if begins_number(bytes) {
         let len = 1 + number_len(begins_hex(bytes), *first, rest);

@@ -1,6 +1,16 @@
 //! Separators and operators.
 ghost use Rattle.std.specs.Prelude.{◌≡◌, map};
-ghost use Rattle.java_lexer.specs.Scanning.{signs_with, first_len};
+ghost use Rattle.java_lexer.specs.Scanning.{is_mark, signs_with, first_len};
+
+/// Whether the byte is a sign, and no longer piece begins with it.
+pub fn is_mark(byte: u8) -> bool
+    ensures { result ≡ is_mark byte }
+{
+    matches!(
+        byte,
+        b'(' | b')' | b'{' | b'}' | b'[' | b']' | b';' | b',' | b'@' | b'~' | b'?'
+    )
+}
 
 /// The signs that begin with this byte, the longer ones first.
 #[tactic(none)]

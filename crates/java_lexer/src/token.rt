@@ -14,13 +14,13 @@ pub enum TokenKind {
     Sign,
 }
 
-/// A token: its kind, its bytes, the place of its first byte, and whether it is the second or third `>`
+/// A token: its bytes, the place of its first byte, its kind, and whether it is the second or third `>`
 /// of a `>>` or `>>>`.
 #[derive(Drop)]
 pub struct Token {
-    pub kind: TokenKind,
     pub text: Text,
     pub place: Place,
+    pub kind: TokenKind,
     pub glued: bool,
 }
 

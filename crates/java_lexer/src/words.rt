@@ -129,13 +129,11 @@ pub fn word_kind(word: &[u8]) -> TokenKind
     }
 }
 
-/// The text of a token.
+/// The text of a token. That the file is UTF-8 was looked for in all of it, so it is not looked for again here.
 pub fn text_of(alloc: Global, bytes: &[u8]) -> Result<Text, Memory>
     requires { IsUtf8 bytes.now }
     ensures { IfOk result (λ text. text ≡ bytes.now) }
 {
-    let Ok(text) = str::from_utf8(bytes) else {
-        unreachable!()
-    };
+    let text = unsafe { str::from_utf8_unchecked(bytes) };
     Text::from_str(alloc, text)
 }

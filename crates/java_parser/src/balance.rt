@@ -1,11 +1,11 @@
 //! The brackets of a file (JLS 3.11).
-ghost use Rattle.std.specs.Prelude.{◌≡◌, ◌<◌, ◌≤◌, ◌^◌, suc, [], map, IfOk, IfErr};
+ghost use Rattle.std.specs.Prelude.{◌≡◌, ◌<◌, ◌≤◌, ◌^◌, suc, [], ◌∷◌, map, IfOk, IfErr};
 ghost use Rattle.java_parser_grammar.specs.Brackets.{is_opening, is_closing, is_pair, depth_behind, opened};
 ghost use Rattle.java_parser_grammar.specs.Brackets.{unbalanced, too_deep};
+ghost use Rattle.java_parser_grammar.specs.Tokens.{is_sign_token};
 ghost use Rattle.java_parser.specs.OpenBrackets.{open_onto, IsOpened, IsBalanced, IsBracketFault};
 
 use java_lexer::{Token, TokenKind};
-use java_parser_types::look::is_sign;
 use java_tree::ParseFault;
 use racer_base::{MAX_BRACKET_NESTING, Memory, Place};
 use std::alloc::Global;
@@ -35,13 +35,25 @@ pub fn is_closing(token: &Token) -> bool
         }
 }
 
-/// Whether the second bracket closes the first.
+/// Whether the token is the sign of this one byte, glued to nothing.
+fn is_mark(token: &Token, byte: u8) -> bool
+    ensures { result ≡ is_sign_token (byte ∷ []) token.now }
+{
+    matches!(token.kind, TokenKind::Sign)
+        && !token.glued
+        && match token.text.as_str().as_bytes() {
+            [found] => *found == byte,
+            _ => false,
+        }
+}
+
+/// Whether the second bracket closes the first, by their bytes too.
 fn is_pair(opening: &Token, closing: &Token) -> bool
     ensures { result ≡ is_pair opening.now closing.now }
 {
-    is_sign(opening, "(") && is_sign(closing, ")")
-        || is_sign(opening, "[") && is_sign(closing, "]")
-        || is_sign(opening, "{") && is_sign(closing, "}")
+    is_mark(opening, b'(') && is_mark(closing, b')')
+        || is_mark(opening, b'[') && is_mark(closing, b']')
+        || is_mark(opening, b'{') && is_mark(closing, b'}')
 }
 
 /// How many brackets are open behind one more token.

@@ -132,29 +132,20 @@ fn sign_step(text: &[u8]) -> AngleStep
     }
 }
 
-/// What the token is among type arguments, by its kind and then by its byte: each `<` asks it of all tokens up to
-/// where it is closed or not.
+/// What the token is among type arguments, of a sign by its byte: each `<` asks it of all tokens up to where it is
+/// closed or not.
 fn angle_step(token: &Token) -> AngleStep
     ensures { Steps (spelled token.now) result }
 {
-    if token.glued {
-        return if is_angle_sign(token) {
-            AngleStep::Closes
-        } else {
-            AngleStep::Ends
-        };
+    if matches!(token.kind, TokenKind::Sign) && !token.glued {
+        return sign_step(token.text.as_str().as_bytes());
     }
-    match token.kind {
-        TokenKind::Name => AngleStep::Stays,
-        TokenKind::Sign => sign_step(token.text.as_str().as_bytes()),
-        TokenKind::Keyword => {
-            if in_arguments(token) {
-                AngleStep::Stays
-            } else {
-                AngleStep::Ends
-            }
-        }
-        _ => AngleStep::Ends,
+    if is_angle_sign(token) {
+        AngleStep::Closes
+    } else if in_arguments(token) {
+        AngleStep::Stays
+    } else {
+        AngleStep::Ends
     }
 }
 
@@ -167,8 +158,11 @@ pub fn closes_angle(limit: u32, tokens: &[Token]) -> bool
 {
     let mut depth: u32 = 0;
     let mut rest = tokens;
-    while let Some((token, after)) = rest.split_first() {
+    while let [token, after @ ..] = rest {
         rest = after;
+        if is_name(token) {
+            continue;
+        }
         match angle_step(token) {
             AngleStep::Opens => {
                 if depth >= limit {

@@ -20,6 +20,8 @@ mod store_alone;
 #[cfg(test)]
 mod tests;
 #[cfg(test)]
+mod typings;
+#[cfg(test)]
 mod workers;
 
 use racer_base::{OpenGate, StdSink};

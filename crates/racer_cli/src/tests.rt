@@ -29,9 +29,9 @@ pub(crate) struct Case<'a> {
 
 const EMPTY: &[u8] = b"racer report 1\nfiles 0 classes 0 methods 0\nwarnings 0 confirmed 0\n";
 
-const USAGE: &[u8] =
+pub(crate) const USAGE: &[u8] =
     b"usage: racer (FOLDER | --made N) [--workers N] [--json] [--summaries] [--history] \
-    [--containers] [--replay NAME] [--edits NAME]\n";
+    [--containers] [--typed] [--replay NAME] [--edits NAME]\n";
 
 /// A report on an empty folder, into a sink that takes all at once.
 pub(crate) const PLAIN: Case = Case {

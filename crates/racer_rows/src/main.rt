@@ -1,7 +1,8 @@
 //! Prints what is read of texts of Java and reported of folders, for each word that it is given: of the rows of the
 //! file `tokens.rows` their tokens, of those of `units.rows` their classes with their members, of a folder
-//! `report/NAME` its reports, of a folder `replay/NAME` the replays of its witness files, of a folder `edits/NAME` the
-//! session of its edits, and of any other folder its program. The stored run compares what it prints with what it has to print.
+//! `report/NAME` its reports, of a folder `typed/NAME` the typings of its classes, of a folder `replay/NAME` the
+//! replays of its witness files, of a folder `edits/NAME` the session of its edits, and of any other folder its program.
+//! The stored run compares what it prints with what it has to print.
 #![tactic(auto)]
 
 mod edits;
@@ -12,6 +13,7 @@ mod reports;
 mod shown;
 mod tokens;
 mod trees;
+mod typings;
 mod units;
 
 use racer_disk::DirFolder;

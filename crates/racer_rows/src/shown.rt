@@ -5,6 +5,7 @@ use crate::page::Page;
 use crate::replays::put_replays;
 use crate::reports::put_reports;
 use crate::tokens::{put_fault, put_tokens};
+use crate::typings::put_typings;
 use crate::units::put_unit;
 use container_cells::Containers;
 use core_code::Program;
@@ -77,8 +78,8 @@ fn put_file(
     Ok(())
 }
 
-/// The program of a folder; both reports on it where it stands below `report`, and the replays of its witness files
-/// where it stands below `replay`.
+/// The program of a folder; both reports on it where it stands below `report`, the typings of its classes where it
+/// stands below `typed`, and the replays of its witness files where it stands below `replay`.
 fn put_accepted<R: Threads + Sync>(
     rt: &R,
     alloc: Global,
@@ -89,6 +90,9 @@ fn put_accepted<R: Threads + Sync>(
 ) -> Result<(), FolderFault> {
     if name.starts_with("report/") {
         return Ok(put_reports(rt, alloc, page, program)?);
+    }
+    if name.starts_with("typed/") {
+        return Ok(put_typings(alloc, page, &program)?);
     }
     if name.starts_with("replay/") {
         return put_replays(alloc, folder, page, &program);

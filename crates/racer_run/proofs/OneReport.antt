@@ -10,7 +10,7 @@ use Rattle.racer_run.specs.declared.status.Status.{Status}
 use Rattle.racer_run.specs.declared.status.Status.TheVariants.{Memory}
 use Rattle.racer_words.specs.Words.{WantedReport, Request, ReportOn, ReplayOf, MadeOf, EditsOf}
 use Rattle.racer_words.specs.Words.{request_of}
-use Rattle.racer_run.specs.RunOutputs.{IsBehind, IsTail, SaysReport, said_from}
+use Rattle.racer_run.specs.RunOutputs.{IsBehind, IsTail, SaysReport, said_from, typings_behind}
 use Rattle.racer_run.specs.Causes.{Invocation, Wrote, IsAnswer, IsCause, IsWhole, IsWholeAnswer}
 use Rattle.racer_run.specs.Reports.{AsksNoHistory, WroteOneReport}
 use Rattle.racer_run.proofs.OneSession.{edits_only}
@@ -51,7 +51,8 @@ both_written one told first second s t v w mode containers f g =
           is_behind = subst (λ (source : Source). IsBehind second source b.tail) (sym sources) b.is_behind;
           taken = g.whole.taken
               ∙ ap (λ (said : RunOutput). taken_and w.taken_before said.text) b.said_so
-              ∙ ap (λ (said : RunOutput). taken_and w.taken_before (said.text ++ b.tail)) (sym same);
+              ∙ (λ i. taken_and w.taken_before
+              (((sym same i).text ++ typings_behind second.typed (sym sources i)) ++ b.tail));
         };
       },
     )
@@ -93,7 +94,9 @@ report_bytes files wanted v w none before h =
     let tails : x.tail ≡ y.tail =
     nothing_behind wanted h.source x.tail none x.is_behind
     ∙ sym (nothing_behind wanted h.source y.tail none y.is_behind) in
-    x.taken ∙ (λ i. taken_and (before i) (h.report ++ tails i)) ∙ sym y.taken
+    x.taken
+    ∙ (λ i. taken_and (before i) ((h.report ++ typings_behind wanted.typed h.source) ++ tails i))
+    ∙ sym y.taken
 
 -- one text
 text_bytes : (v w : Wrote) (x y : List ℕ) → v.taken_before ≡ w.taken_before → IsWhole v x → IsWhole w y → x ≡ y

@@ -9,13 +9,22 @@ use Rattle.summary_store.specs.Machine.{Legal, IsComplete}
 use Rattle.summary_store.specs.Setups.{setup_of}
 use Rattle.racer_run_history.specs.History.{history_text}
 use Rattle.racer_run.specs.declared.output.RunOutput.{RunOutput}
-use Rattle.racer_run.specs.RunOutputs.{said_from, with_tail, IsTail}
+use Rattle.racer_run_typings.specs.Lines.{typings_text}
+use Rattle.racer_run.specs.RunOutputs.{said_with, typings_behind, with_tail, IsTail}
 use Rattle.racer_run.specs.Tails.{lines_of, IsSaidWith}
 use Rattle.racer_words.specs.Words.{WantedReport}
 
 -- nothing stands behind
 pub no_tail : (said : RunOutput) → said ≡ with_tail said []
 no_tail said = λ i. record { status = said.status; text = sym (append-nil said.text) i }
+
+-- the lines of the classes stand behind
+pub typed_behind : (asked : Bool) (said : RunOutput) (program : Core) (text : List ℕ) → asked ≡ true
+    → text ≡ said.text ++ typings_text program
+    → ◌≡◌ {A = RunOutput} (record { status = said.status; text = text })
+    (with_tail said (typings_behind asked (Accepted program)))
+typed_behind true said program text e is = λ i. record { status = said.status; text = is i }
+typed_behind false said program text e is = cc
 
 -- the lines of a history stand behind
 pub behind : (asked : Bool) (said : RunOutput) (program : Core) (history : List Event) (text : List ℕ) → asked ≡ true
@@ -37,7 +46,7 @@ if_ok (Ok y) x P h e = subst P (sym e) h
 if_ok (Err e) x P h tt = tt
 
 pub with_lines : {E : Type 0} (r : Result RunOutput E) (program : Core) (wanted : WantedReport) (said : RunOutput)
-    (history : List Event) → said ≡ said_from wanted.mode (Accepted program)
+    (history : List Event) → said ≡ said_with wanted (Accepted program)
     → Legal (setup_of program wanted.workers) history
     → IsComplete (setup_of program wanted.workers) history
     → IfOk r (λ new. new ≡ with_tail said (lines_of wanted.history program history))

@@ -16,6 +16,7 @@ pub record IsPlain (wanted : WantedReport) : Type 0 where
   pub mode : wanted.mode ≡ plain_mode
   pub history : wanted.history ≡ false
   pub containers : wanted.containers ≡ Opaque
+  pub typed : wanted.typed ≡ false
 
 -- whatever a fresh run says of these files, the edit says its line and then that
 abbrev pub TellsFresh : Files → Core → Edit → Source → Type 0

@@ -6,7 +6,7 @@ use Rattle.racer_words.specs.Words.{WantedReport}
 use Rattle.summary_store.specs.declared.machine.Event.{Event}
 use Rattle.racer_run_history.specs.History.{history_text}
 use Rattle.racer_run.specs.declared.output.RunOutput.{RunOutput}
-use Rattle.racer_run.specs.RunOutputs.{said_from, with_tail, IsBehind}
+use Rattle.racer_run.specs.RunOutputs.{said_with, with_tail, IsBehind}
 
 -- the lines of a history, where they are asked for
 abbrev pub lines_of : Bool → Core → List Event → List ℕ
@@ -17,4 +17,4 @@ lines_of true program history = history_text program history
 pub record IsSaidWith (wanted : WantedReport) (source : Source) (said : RunOutput) : Type 0 where
   pub tail : List ℕ
   pub is_behind : IsBehind wanted source tail
-  pub said_so : said ≡ with_tail (said_from wanted.mode source) tail
+  pub said_so : said ≡ with_tail (said_with wanted source) tail

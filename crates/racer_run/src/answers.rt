@@ -21,7 +21,7 @@ use std::thread::Threads;
 /// The usage line.
 const USAGE: &str =
     "usage: racer (FOLDER | --made N) [--workers N] [--json] [--summaries] [--history] \
-    [--containers] [--replay NAME] [--edits NAME]\n";
+    [--containers] [--typed] [--replay NAME] [--edits NAME]\n";
 
 /// What is said to a request.
 fn answered<R: Threads + Wait + Sync, F: Folder, G: Gate + Sync>(

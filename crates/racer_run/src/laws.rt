@@ -41,10 +41,10 @@ pub fn same_bytes()
     one_source();
 }
 
-/// The report is the same for any number of workers, and with a history or without: two runs whose words ask for the
-/// same folder in the same mode and with the same containers, on folders that tell the same and without a fault, end
-/// with one status and write one report, unless memory was refused. Behind it stands the history, in a run whose words
-/// ask for it, and else nothing.
+/// The report is the same for any number of workers, with typings or without, and with a history or without: two runs
+/// whose words ask for the same folder in the same mode and with the same containers, on folders that tell the same and
+/// without a fault, end with one status and write one report, unless memory was refused. Behind it stand the typings of
+/// the classes and then the history, in a run whose words ask for them, and else nothing.
 pub fn same_report()
     ensures { (s t : Status) (a b : Invocation) (v w : Wrote) (told : Told) (first second : WantedReport) →
         request_of a.words ≡ Some (ReportOn first) → request_of b.words ≡ Some (ReportOn second) →

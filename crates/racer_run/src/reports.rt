@@ -7,8 +7,8 @@ ghost use Rattle.racer_sources.specs.Finding.{CountsFaults, FailsByMemory};
 ghost use Rattle.racer_sources.specs.Programs.{Accepted, source_of};
 ghost use Rattle.summary_store.specs.Machine.{IsComplete, Legal};
 ghost use Rattle.summary_store.specs.Setups.{setup_of};
-ghost use Rattle.racer_run.specs.RunOutputs.{report_status, said_from, with_tail, HasHeadline};
-ghost use Rattle.racer_run.specs.RunOutputs.{HasReplays, SaysReport};
+ghost use Rattle.racer_run.specs.RunOutputs.{report_status, said_from, typings_behind, with_tail, HasHeadline};
+ghost use Rattle.racer_run.specs.RunOutputs.{HasReplays, HasTypedClasses, SaysReport};
 ghost use Rattle.racer_words.specs.Requests.{wanted_of};
 ghost use Rattle.racer_run.specs.Tails.{lines_of, IsSaidWith};
 ghost use Rattle.racer_run.specs.Statuses.{is_made_status, is_report_status};
@@ -25,12 +25,15 @@ use race_report_parts::Written;
 use racer_base::{Folder, FolderFault, Gate, Memory, Text};
 use racer_run_history::push_history;
 use racer_run_marks::marks_in_threads;
+use racer_run_typings::push_typings;
 use racer_sources::{FoundProgram, folder_program};
 use racer_words::WantedReport;
 use std::alloc::Global;
 use std::sync::{Arc, Wait};
 use std::thread::Threads;
 use summary_store::Event;
+use typed_core::typings;
+use typed_core_laws::laws::typed_classes_are_never_blocked;
 use witness_build_laws::laws::whole_warnings_race;
 use witness_text::laws::witnesses_in_reports_replay;
 
@@ -93,7 +96,8 @@ pub fn pooled<R: Threads + Wait + Sync, G: Gate + Sync>(
     run_pool(rt, alloc, program, &rows, workers, gate)
 }
 
-/// The report on a program, with the history of its workers behind it where that is asked for.
+/// The report on a program, with the typings of its classes and then the history of its workers behind it where these
+/// are asked for.
 fn reported<R: Threads + Wait + Sync, G: Gate + Sync>(
     rt: &R,
     alloc: Global,
@@ -106,8 +110,31 @@ fn reported<R: Threads + Wait + Sync, G: Gate + Sync>(
         IsSaidWith (wanted_of wanted.now) (Accepted (core (arc_value program.now))) said) }
 {
     let Pooled { history, outcomes } = pooled(rt, alloc, program, wanted.workers, gate)?;
-    let said = said_of(rt, alloc, wanted.mode, &**program, &outcomes)?;
+    let plain = said_of(rt, alloc, wanted.mode, &**program, &outcomes)?;
+    let said = with_typings(alloc, wanted.typed, plain, &**program)?;
     with_history(alloc, wanted.history, said, &**program, history.as_slice())
+}
+
+/// The same with the lines of the classes that have an entry behind the text, where they are asked for.
+fn with_typings(
+    alloc: Global,
+    asked: bool,
+    said: RunOutput,
+    program: &Program,
+) -> Result<RunOutput, Memory>
+    ensures { IfOk result (λ new. new ≡ with_tail said (typings_behind asked (Accepted (core program.now)))) }
+{
+    if !asked {
+        return Ok(said);
+    }
+    let typings = typings(alloc, program)?;
+    let RunOutput { status, text } = said;
+    let mut written = Written::behind(alloc, text.into_string(alloc)?);
+    push_typings(&mut written, program, typings.as_slice());
+    Ok(RunOutput {
+        status,
+        text: Text::from(written.finished()?),
+    })
 }
 
 /// The same with the lines of a history behind the text, where they are asked for.
@@ -144,9 +171,11 @@ fn said_of_found<R: Threads + Wait + Sync, G: Gate + Sync>(
     ensures said { IfOk result (λ said. IsSaidWith (wanted_of wanted.now) (source_of found) said) }
     ensures headline { HasHeadline (source_of found) }
     ensures replays { HasReplays (source_of found) }
+    ensures typed { HasTypedClasses (source_of found) }
 {
     whole_warnings_race();
     witnesses_in_reports_replay();
+    typed_classes_are_never_blocked();
     match found {
         FoundProgram::Accepted(program) => {
             let program = Arc::new(alloc, program)?;

@@ -13,9 +13,9 @@ use std::sync::Wait;
 use std::thread::Threads;
 
 /// Does what the words after the program's name ask for, and writes what comes of it to the sink: the report on a
-/// folder, behind it, where the words ask for it, the history of the workers; the verdict on a witness of the folder;
-/// the report on a made folder, in numbers; the report on the folder and then on what each edit of a file makes of it;
-/// or the line that says why there is none.
+/// folder, behind it, where the words ask for them, the typings of its classes and then the history of the workers; the
+/// verdict on a witness of the folder; the report on a made folder, in numbers; the report on the folder and then on
+/// what each edit of a file makes of it; or the line that says why there is none.
 ///
 /// The text is made whole before the first write, and writing takes no memory.
 pub fn run<R: Threads + Wait + Sync, F: Folder, S: Sink, G: Gate + Sync>(

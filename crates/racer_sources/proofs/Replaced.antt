@@ -206,7 +206,7 @@ nothing_replaced files name kept none are is =
 
 -- ---- the number of a name
 
-number_there : (names : List (List ℕ)) (name : List ℕ) (n : ℕ) → slice_get names n ≡ Some name
+pub number_there : (names : List (List ℕ)) (name : List ℕ) (n : ℕ) → slice_get names n ≡ Some name
     → list_any (same_name name) names ≡ true
 number_there [] name n at = absurd (let bad : ◌≡◌ {A = Option (List ℕ)} None (Some name) = at in cc)
 number_there (x ∷ xs) name zero at =

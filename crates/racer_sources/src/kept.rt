@@ -1,6 +1,6 @@
 //! The sources of a folder, as they are kept while some of them are replaced.
 ghost use Rattle.std.specs.Prelude.{◌≡◌, ◌≤◌, ◌+◌, ℕ, List, Ok, Err, IfOk, IfSome, OnOk, length, map};
-ghost use Rattle.std.specs.Prelude.{string_bytes, true};
+ghost use Rattle.std.specs.Prelude.{false, string_bytes, true};
 ghost use Rattle.std.specs.FinMap.{insert};
 ghost use Rattle.std.specs.List.{list_any};
 ghost use Rattle.container_cells.specs.declared.cell.Containers.TheVariants.{Opaque};
@@ -110,6 +110,8 @@ impl SourceFiles {
         ensures kept { (files : Files) (whole : List ℕ) → AreKept files self.old →
             list_any (same_name name.now) (source_names files) ≡ true → bytes.items ≡ front whole →
             AreKept (insert files name.now whole) self.new }
+        ensures stays { list_any (same_name name.now) (map string_bytes self.old.names.items) ≡ false →
+            self.new ≡ self.old }
     {
         let Some(number) = self.number_of(name) else {
             return;

@@ -59,9 +59,9 @@ named_turn action names i d made more x within is gives =
     ∙ append_assoc (rules_of made) (local rule ∷ []) rest
     ∙ sym (at_drop_more (λ left. rules_of made ++ named_rules action left) names i d within)
 
--- three at once and then four are one after another
-pub one_by_one : {A : Type 0} (rules : List A) (a b c d w x y z : A) →
-    (rules ++ a ∷ b ∷ c ∷ d ∷ []) ++ w ∷ x ∷ y ∷ z ∷ []
-    ≡ (((((((rules ++ a ∷ []) ++ b ∷ []) ++ c ∷ []) ++ d ∷ []) ++ w ∷ []) ++ x ∷ []) ++ y ∷ []) ++ z ∷ []
-one_by_one [] a b c d w x y z = refl
-one_by_one (r ∷ rules) a b c d w x y z = ap (λ more. r ∷ more) (one_by_one rules a b c d w x y z)
+-- four at once and then five are one after another
+pub one_by_one : {A : Type 0} (rules : List A) (a b c d v w x y z : A) →
+    (rules ++ a ∷ b ∷ c ∷ d ∷ []) ++ v ∷ w ∷ x ∷ y ∷ z ∷ []
+    ≡ ((((((((rules ++ a ∷ []) ++ b ∷ []) ++ c ∷ []) ++ d ∷ []) ++ v ∷ []) ++ w ∷ []) ++ x ∷ []) ++ y ∷ []) ++ z ∷ []
+one_by_one [] a b c d v w x y z = refl
+one_by_one (r ∷ rules) a b c d v w x y z = ap (λ more. r ∷ more) (one_by_one rules a b c d v w x y z)

@@ -3,7 +3,7 @@ use Rattle.std.proofs.Common.{◌≡◌, true, List, [], ◌∷◌, Some, None, 
 use Rattle.clap.specs.Walk.{Rule, arg_by_id, arg_by_index}
 use Rattle.clap.specs.Simple.{Shape, built, filled, with_index, new_shape}
 use Rattle.racer_words.specs.Uses.{Label, Folder, Workers, Replay, Made, Edits, Json, Summaries, History, name_of}
-use Rattle.racer_words.specs.Uses.{Containers}
+use Rattle.racer_words.specs.Uses.{Containers, Typed}
 use Rattle.racer_words.specs.Uses.{labels}
 use Rattle.racer_words.specs.Command.{command, rule_of_label}
 
@@ -36,6 +36,7 @@ by_id Json = refl
 by_id Summaries = refl
 by_id History = refl
 by_id Containers = refl
+by_id Typed = refl
 
 pub first_index : arg_by_index all 1 ≡ Some (built_rule Folder)
 first_index = refl

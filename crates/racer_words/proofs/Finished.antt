@@ -15,7 +15,7 @@ use Rattle.clap.specs.Faults.{walk_fault, default_fault, defaults_fault, check_f
 use Rattle.clap.specs.Faults.{settle_fault}
 use Rattle.clap.specs.declared.parser.matches.ValueSource.TheVariants.{DefaultValue}
 use Rattle.racer_words.specs.Uses.{Word, Label, Folder, Workers, Replay, Made, Edits, Json, Summaries, History, name_of}
-use Rattle.racer_words.specs.Uses.{Containers}
+use Rattle.racer_words.specs.Uses.{Containers, Typed}
 use Rattle.racer_words.specs.Uses.{takes_value}
 use Rattle.racer_words.specs.Uses.{Use, has, given, uses, differ, labels}
 use Rattle.racer_words.specs.Command.{command, fails}
@@ -44,6 +44,7 @@ default_ok Json rows = by_flag (has_row (codes "json") rows) _ refl
 default_ok Summaries rows = by_flag (has_row (codes "summaries") rows) _ refl
 default_ok History rows = by_flag (has_row (codes "history") rows) _ refl
 default_ok Containers rows = by_flag (has_row (codes "containers") rows) _ refl
+default_ok Typed rows = by_flag (has_row (codes "typed") rows) _ refl
 
 defaults_ok : (ls : List Label) (rows : List Row) → defaults_fault rows (map built_rule ls) ≡ []
 unfolding defaults_fault
@@ -127,6 +128,7 @@ value_default Json rows t = absurd (cc t)
 value_default Summaries rows t = absurd (cc t)
 value_default History rows t = absurd (cc t)
 value_default Containers rows t = absurd (cc t)
+value_default Typed rows t = absurd (cc t)
 
 flag_by : (l : Label) (rows : List Row) (h : Bool) → has_row (name_of l) rows ≡ h
     → (if h then rows else with_values (name_of l) (reading_by (built_rule l)) DefaultValue (codes "false" ∷ []) rows)
@@ -146,6 +148,7 @@ flag_default Json rows t = flag_by Json rows (has_row (codes "json") rows) refl
 flag_default Summaries rows t = flag_by Summaries rows (has_row (codes "summaries") rows) refl
 flag_default History rows t = flag_by History rows (has_row (codes "history") rows) refl
 flag_default Containers rows t = flag_by Containers rows (has_row (codes "containers") rows) refl
+flag_default Typed rows t = flag_by Typed rows (has_row (codes "typed") rows) refl
 
 abbrev or_default : Label → Option Row → Option Row
 or_default l None = Some (default_row l)
@@ -208,29 +211,35 @@ behind_summaries rows = with_default (behind_json rows) (built_rule Summaries)
 abbrev behind_history : List Row → List Row
 behind_history rows = with_default (behind_summaries rows) (built_rule History)
 
+abbrev behind_containers : List Row → List Row
+behind_containers rows = with_default (behind_history rows) (built_rule Containers)
+
 record IsNoFlag (l : Label) : Type 0 where
   json : bytes_eq (name_of Json) (name_of l) ≡ false
   summaries : bytes_eq (name_of Summaries) (name_of l) ≡ false
   history : bytes_eq (name_of History) (name_of l) ≡ false
   containers : bytes_eq (name_of Containers) (name_of l) ≡ false
+  typed : bytes_eq (name_of Typed) (name_of l) ≡ false
 
 value_all : (l : Label) (rows : List Row) → IsNoFlag l → row_at l (with_all (Folder ∷ labels) rows) ≡ row_at l rows
 value_all l rows e =
-    other_at Containers l (behind_history rows) refl e.containers
+    other_at Typed l (behind_containers rows) refl e.typed
+    ∙ other_at Containers l (behind_history rows) refl e.containers
     ∙ other_at History l (behind_summaries rows) refl e.history
     ∙ other_at Summaries l (behind_json rows) refl e.summaries
     ∙ other_at Json l (behind_values rows) refl e.json ∙ values_first l rows
 
 no_flag : (l : Label) → takes_value l ≡ true → IsNoFlag l
-no_flag Folder t = record { json = refl; summaries = refl; history = refl; containers = refl }
-no_flag Workers t = record { json = refl; summaries = refl; history = refl; containers = refl }
-no_flag Replay t = record { json = refl; summaries = refl; history = refl; containers = refl }
-no_flag Made t = record { json = refl; summaries = refl; history = refl; containers = refl }
-no_flag Edits t = record { json = refl; summaries = refl; history = refl; containers = refl }
+no_flag Folder t = record { json = refl; summaries = refl; history = refl; containers = refl; typed = refl }
+no_flag Workers t = record { json = refl; summaries = refl; history = refl; containers = refl; typed = refl }
+no_flag Replay t = record { json = refl; summaries = refl; history = refl; containers = refl; typed = refl }
+no_flag Made t = record { json = refl; summaries = refl; history = refl; containers = refl; typed = refl }
+no_flag Edits t = record { json = refl; summaries = refl; history = refl; containers = refl; typed = refl }
 no_flag Json t = absurd (cc t)
 no_flag Summaries t = absurd (cc t)
 no_flag History t = absurd (cc t)
 no_flag Containers t = absurd (cc t)
+no_flag Typed t = absurd (cc t)
 
 flag_all : (l : Label) (rows : List Row) → takes_value l ≡ false
     → row_at l (with_all (Folder ∷ labels) rows) ≡ or_default l (row_at l rows)
@@ -240,23 +249,33 @@ flag_all Replay rows t = absurd (cc t)
 flag_all Made rows t = absurd (cc t)
 flag_all Edits rows t = absurd (cc t)
 flag_all Json rows t =
-    other_at Containers Json (behind_history rows) refl refl ∙ other_at History Json (behind_summaries rows) refl refl
+    other_at Typed Json (behind_containers rows) refl refl
+    ∙ other_at Containers Json (behind_history rows) refl refl ∙ other_at History Json (behind_summaries rows) refl refl
     ∙ other_at Summaries Json (behind_json rows) refl refl
     ∙ filled_at Json (behind_values rows) refl ∙ ap (or_default Json) (values_first Json rows)
 flag_all Summaries rows t =
-    other_at Containers Summaries (behind_history rows) refl refl
+    other_at Typed Summaries (behind_containers rows) refl refl
+    ∙ other_at Containers Summaries (behind_history rows) refl refl
     ∙ other_at History Summaries (behind_summaries rows) refl refl
     ∙ filled_at Summaries (behind_json rows) refl
     ∙ ap (or_default Summaries) (other_at Json Summaries (behind_values rows) refl refl ∙ values_first Summaries rows)
 flag_all History rows t =
-    other_at Containers History (behind_history rows) refl refl ∙ filled_at History (behind_summaries rows) refl
+    other_at Typed History (behind_containers rows) refl refl
+    ∙ other_at Containers History (behind_history rows) refl refl ∙ filled_at History (behind_summaries rows) refl
     ∙ ap (or_default History) (other_at Summaries History (behind_json rows) refl refl
     ∙ other_at Json History (behind_values rows) refl refl ∙ values_first History rows)
 flag_all Containers rows t =
-    filled_at Containers (behind_history rows) refl
+    other_at Typed Containers (behind_containers rows) refl refl
+    ∙ filled_at Containers (behind_history rows) refl
     ∙ ap (or_default Containers) (other_at History Containers (behind_summaries rows) refl refl
     ∙ other_at Summaries Containers (behind_json rows) refl refl
     ∙ other_at Json Containers (behind_values rows) refl refl ∙ values_first Containers rows)
+flag_all Typed rows t =
+    filled_at Typed (behind_containers rows) refl
+    ∙ ap (or_default Typed) (other_at Containers Typed (behind_history rows) refl refl
+    ∙ other_at History Typed (behind_summaries rows) refl refl
+    ∙ other_at Summaries Typed (behind_json rows) refl refl
+    ∙ other_at Json Typed (behind_values rows) refl refl ∙ values_first Typed rows)
 
 -- ---- what is given
 
@@ -305,6 +324,7 @@ true_text Json t = refl
 true_text Summaries t = refl
 true_text History t = refl
 true_text Containers t = refl
+true_text Typed t = refl
 
 false_text : (l : Label) → takes_value l ≡ false → text_at (Some (default_row l)) ≡ Some (codes "false")
 false_text Folder t = absurd (cc t)
@@ -316,6 +336,7 @@ false_text Json t = refl
 false_text Summaries t = refl
 false_text History t = refl
 false_text Containers t = refl
+false_text Typed t = refl
 
 flag_step : (l : Label) (u : Use) (us : List Use) (b : Bool) → bytes_eq (name_of u.label) (name_of l) ≡ b
     → takes_value l ≡ false

@@ -8,7 +8,7 @@ use Rattle.clap.specs.Walk.{Row}
 use Rattle.clap.specs.Simple.{matches_of}
 use Rattle.clap.specs.Faults.{fault_of}
 use Rattle.racer_words.specs.Uses.{Word, Folder, Workers, Replay, Made, Edits, Json, Summaries, History, Line, Use}
-use Rattle.racer_words.specs.Uses.{Containers}
+use Rattle.racer_words.specs.Uses.{Containers, Typed}
 use Rattle.racer_words.specs.Uses.{line_of, line, read, has}
 use Rattle.racer_words.specs.Command.{command, fails}
 use Rattle.racer_words.specs.Lines.{IsOf, flag_text}
@@ -19,20 +19,27 @@ pub among_fails : (k : ErrorKind) (ks : Kinds) → IsAmong k ks → fails ks ≡
 among_fails k [] h = absurd h
 among_fails k (x ∷ ks) h = refl
 
--- a line is its nine parts
+-- a line is its ten parts
 same_parts : (l m : Line) → l.folder ≡ m.folder → l.workers ≡ m.workers → l.replay ≡ m.replay → l.made ≡ m.made
     → l.edits ≡ m.edits → l.json ≡ m.json → l.summaries ≡ m.summaries → l.history ≡ m.history
-    → l.containers ≡ m.containers → l ≡ m
-same_parts l m a b c d k e f g h =
+    → l.containers ≡ m.containers → l.typed ≡ m.typed → l ≡ m
+same_parts l m a b c d i e f g h k =
     ap (λ x. record l { folder = x }) a
     ∙ ap (λ x. record l { folder = m.folder; workers = x }) b
     ∙ ap (λ x. record l { folder = m.folder; workers = m.workers; replay = x }) c
     ∙ ap (λ x. record l { folder = m.folder; workers = m.workers; replay = m.replay; made = x }) d
-    ∙ ap (λ x. record l { folder = m.folder; workers = m.workers; replay = m.replay; made = m.made; edits = x }) k
-    ∙ ap (λ x. record m { json = x; summaries = l.summaries; history = l.history; containers = l.containers }) e
-    ∙ ap (λ x. record m { summaries = x; history = l.history; containers = l.containers }) f
-    ∙ ap (λ x. record m { history = x; containers = l.containers }) g
-    ∙ ap (λ x. record m { containers = x }) h
+    ∙ ap (λ x. record l { folder = m.folder; workers = m.workers; replay = m.replay; made = m.made; edits = x }) i
+    ∙ ap (λ x. record m {
+      json = x;
+      summaries = l.summaries;
+      history = l.history;
+      containers = l.containers;
+      typed = l.typed;
+    }) e
+    ∙ ap (λ x. record m { summaries = x; history = l.history; containers = l.containers; typed = l.typed }) f
+    ∙ ap (λ x. record m { history = x; containers = l.containers; typed = l.typed }) g
+    ∙ ap (λ x. record m { containers = x; typed = l.typed }) h
+    ∙ ap (λ x. record m { typed = x }) k
 
 same_line : (rows : List Row) (us : List Use) (l : Line) → Gives rows us → IsOf rows l → l ≡ line_of us
 same_line rows us l g is = same_parts l (line_of us) (is.folder ∙ g.words Folder refl)
@@ -40,7 +47,7 @@ same_line rows us l g is = same_parts l (line_of us) (is.folder ∙ g.words Fold
     (is.edits ∙ g.words Edits refl)
     (is.json (has Json us) (g.flags Json refl))
     (is.summaries (has Summaries us) (g.flags Summaries refl)) (is.history (has History us) (g.flags History refl))
-    (is.containers (has Containers us) (g.flags Containers refl))
+    (is.containers (has Containers us) (g.flags Containers refl)) (is.typed (has Typed us) (g.flags Typed refl))
 
 some_by : (words : List Word) (l : Line) (o : Option (List Use)) → MatchOption o (fails (fault_of command words) ≡ true)
     (λ us. (fault_of command words ≡ []) × Gives (matches_of command words) us) → fault_of command words ≡ []

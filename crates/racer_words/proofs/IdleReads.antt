@@ -3,7 +3,7 @@ use Rattle.std.proofs.Common.{◌≡◌, Bool, true, false, List, [], ◌∷◌,
 use Rattle.std.proofs.Common.{◌∙◌}
 use Rattle.clap.specs.Walk.{Row, Text, Held, Walk, idle, option, settled, reacted, used}
 use Rattle.racer_words.specs.Uses.{Word, Label, Folder, Workers, Replay, Made, Edits, Json, Summaries, History, name_of}
-use Rattle.racer_words.specs.Uses.{Containers}
+use Rattle.racer_words.specs.Uses.{Containers, Typed}
 use Rattle.racer_words.specs.Uses.{takes_value}
 use Rattle.racer_words.specs.Uses.{label_of, Use, one, has, uses, put, valued}
 use Rattle.racer_words.specs.Readings.{AreTexts}
@@ -41,6 +41,7 @@ id_is Json = refl
 id_is Summaries = refl
 id_is History = refl
 id_is Containers = refl
+id_is Typed = refl
 
 module _ (word : Word) (rest : List Word) (idles : IdleReads rest) (waits : WaitsReads rest) where
   plain_at : (done : List Use) (rows : List Row) (p : Option (Text × List Text)) → Stands done (holds rows p)

@@ -9,7 +9,7 @@ use Rattle.clap.specs.Faults.{use_fault}
 use Rattle.clap.specs.declared.builder.value_parser.Reading.{Reading}
 use Rattle.clap.specs.declared.parser.matches.ValueSource.TheVariants.{CommandLine}
 use Rattle.racer_words.specs.Uses.{Word, Label, Folder, Workers, Replay, Made, Edits, Json, Summaries, History, name_of}
-use Rattle.racer_words.specs.Uses.{Containers}
+use Rattle.racer_words.specs.Uses.{Containers, Typed}
 use Rattle.racer_words.specs.Uses.{takes_value, Use, one, has}
 use Rattle.racer_words.specs.Command.{fails}
 use Rattle.racer_words.proofs.BuiltRules.{built_rule}
@@ -77,6 +77,7 @@ set_as Json values rows = refl
 set_as Summaries values rows = refl
 set_as History values rows = refl
 set_as Containers values rows = refl
+set_as Typed values rows = refl
 
 pub used_row : (l : Label) (values : List Text) (word : Word) (rows : List Row)
     → Fits l values (due_word (takes_value l) word) → has_row (name_of l) rows ≡ false
@@ -99,6 +100,7 @@ fits Json word = refl
 fits Summaries word = refl
 fits History word = refl
 fits Containers word = refl
+fits Typed word = refl
 
 pub first_use : (l : Label) (word : Word) (rows : List Row) → has_row (name_of l) rows ≡ false
     → use_fault false (built_rule l) (given_values (takes_value l) word) rows ≡ []
@@ -111,6 +113,7 @@ first_use Json word rows e = rw e refl
 first_use Summaries word rows e = rw e refl
 first_use History word rows e = rw e refl
 first_use Containers word rows e = rw e refl
+first_use Typed word rows e = rw e refl
 
 pub second_use : (l : Label) (word : Word) (rows : List Row) → has_row (name_of l) rows ≡ true
     → fails (use_fault false (built_rule l) (given_values (takes_value l) word) rows) ≡ true
@@ -123,6 +126,7 @@ second_use Json word rows e = rw e refl
 second_use Summaries word rows e = rw e refl
 second_use History word rows e = rw e refl
 second_use Containers word rows e = rw e refl
+second_use Typed word rows e = rw e refl
 
 -- an option without a value
 pub no_value : (l : Label) (rows : List Row) → takes_value l ≡ true
@@ -136,3 +140,4 @@ no_value Json rows e = absurd (cc e)
 no_value Summaries rows e = absurd (cc e)
 no_value History rows e = absurd (cc e)
 no_value Containers rows e = absurd (cc e)
+no_value Typed rows e = absurd (cc e)

@@ -7,7 +7,7 @@ use Rattle.std.proofs.Math.Bool.{or-false}
 use Rattle.clap.specs.Lexer.{long_of, short_of}
 use Rattle.clap.specs.Walk.{Rule, arg_by_long, has_long}
 use Rattle.racer_words.specs.Uses.{Word, Label, Folder, Workers, Replay, Made, Edits, Json, Summaries, History, name_of}
-use Rattle.racer_words.specs.Uses.{Containers}
+use Rattle.racer_words.specs.Uses.{Containers, Typed}
 use Rattle.racer_words.specs.Uses.{label_of, long_name, is_plain}
 use Rattle.racer_words.specs.Readings.{IsText}
 use Rattle.racer_words.proofs.BuiltRules.{built_rule, all}
@@ -104,27 +104,29 @@ by_long name =
     (chosen _ _ Json _ _ (or-false (bytes_eq (codes "json") name))
     (chosen _ _ Summaries _ _ (or-false (bytes_eq (codes "summaries") name))
     (chosen _ _ History _ _ (or-false (bytes_eq (codes "history") name))
-    (chosen _ _ Containers _ _ (or-false (bytes_eq (codes "containers") name)) refl)))))))
+    (chosen _ _ Containers _ _ (or-false (bytes_eq (codes "containers") name))
+    (chosen _ _ Typed _ _ (or-false (bytes_eq (codes "typed") name)) refl))))))))
 
 -- no name is that of the folder
-folder_last : (a b c d e f g h : Bool) → cond a (Some Workers) (cond b (Some Replay) (cond c (Some Made) (cond d (Some Edits)
-    (cond e (Some Json) (cond f (Some Summaries) (cond g (Some History)
-    (cond h (Some Containers) None))))))) ≡ Some Folder → ⊥
-folder_last true b c d e f g h k = absurd (cc k)
-folder_last false true c d e f g h k = absurd (cc k)
-folder_last false false true d e f g h k = absurd (cc k)
-folder_last false false false true e f g h k = absurd (cc k)
-folder_last false false false false true f g h k = absurd (cc k)
-folder_last false false false false false true g h k = absurd (cc k)
-folder_last false false false false false false true h k = absurd (cc k)
-folder_last false false false false false false false true k = absurd (cc k)
-folder_last false false false false false false false false k = absurd (cc k)
+folder_last : (a b c d e f g h i : Bool) → cond a (Some Workers) (cond b (Some Replay) (cond c (Some Made)
+    (cond d (Some Edits) (cond e (Some Json) (cond f (Some Summaries) (cond g (Some History)
+    (cond h (Some Containers) (cond i (Some Typed) None)))))))) ≡ Some Folder → ⊥
+folder_last true b c d e f g h i k = absurd (cc k)
+folder_last false true c d e f g h i k = absurd (cc k)
+folder_last false false true d e f g h i k = absurd (cc k)
+folder_last false false false true e f g h i k = absurd (cc k)
+folder_last false false false false true f g h i k = absurd (cc k)
+folder_last false false false false false true g h i k = absurd (cc k)
+folder_last false false false false false false true h i k = absurd (cc k)
+folder_last false false false false false false false true i k = absurd (cc k)
+folder_last false false false false false false false false true k = absurd (cc k)
+folder_last false false false false false false false false false k = absurd (cc k)
 
 abbrev pub IsOther : Label → Type 0
 IsOther l = bytes_eq (name_of l) (codes "FOLDER") ≡ false
 
 pub other : (name : Word) (l : Label) → label_of name ≡ Some l → IsOther l
-other name Folder e = absurd (folder_last _ _ _ _ _ _ _ _ e)
+other name Folder e = absurd (folder_last _ _ _ _ _ _ _ _ _ e)
 other name Workers e = refl
 other name Replay e = refl
 other name Made e = refl
@@ -133,3 +135,4 @@ other name Json e = refl
 other name Summaries e = refl
 other name History e = refl
 other name Containers e = refl
+other name Typed e = refl

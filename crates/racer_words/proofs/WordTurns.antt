@@ -9,7 +9,7 @@ use Rattle.clap.specs.Walk.{subcommand_met, positional}
 use Rattle.clap.specs.Faults.{settle_fault, react_fault, turn_fault, flags_fault}
 use Rattle.clap.specs.Kinds.{Kinds}
 use Rattle.racer_words.specs.Uses.{Word, Label, Folder, Workers, Replay, Made, Edits, Json, Summaries, History, name_of}
-use Rattle.racer_words.specs.Uses.{Containers}
+use Rattle.racer_words.specs.Uses.{Containers, Typed}
 use Rattle.racer_words.specs.Uses.{takes_value, label_of}
 use Rattle.racer_words.proofs.BuiltRules.{built_rule, all, shape}
 use Rattle.racer_words.proofs.Turns.{at, holds, Fault, no_fault, else_first}
@@ -86,6 +86,7 @@ takes Json = refl
 takes Summaries = refl
 takes History = refl
 takes Containers = refl
+takes Typed = refl
 
 module _ (word : Word) (p : Word × Option Word) (is : IsLong word p) (q : ℕ) (waiting : Waiting) (h : Held) where
   pub unknown : label_of p.0 ≡ None → Fault (turn (at false q waiting h) word)
@@ -160,3 +161,4 @@ value_walk Json word q rows is t = absurd (cc t)
 value_walk Summaries word q rows is t = absurd (cc t)
 value_walk History word q rows is t = absurd (cc t)
 value_walk Containers word q rows is t = absurd (cc t)
+value_walk Typed word q rows is t = absurd (cc t)

@@ -7,7 +7,7 @@ use Rattle.clap.specs.declared.builder.arg.Arg.{Arg}
 use Rattle.clap.specs.declared.builder.action.ArgAction.{ArgAction}
 use Rattle.clap.specs.declared.builder.action.ArgAction.TheVariants.{Set, SetTrue}
 use Rattle.racer_words.specs.Uses.{Word, Label, Folder, Workers, Replay, Made, Json, Summaries, History}
-use Rattle.racer_words.specs.Uses.{Containers, Edits}
+use Rattle.racer_words.specs.Uses.{Containers, Edits, Typed}
 use Rattle.racer_words.specs.Uses.{labels}
 
 abbrev pub folder_rule : Rule
@@ -45,6 +45,7 @@ rule_of_label Json = flag_rule (codes "json")
 rule_of_label Summaries = flag_rule (codes "summaries")
 rule_of_label History = flag_rule (codes "history")
 rule_of_label Containers = flag_rule (codes "containers")
+rule_of_label Typed = flag_rule (codes "typed")
 
 abbrev pub command : App
 command = fold with_rule folder_command (map rule_of_label labels)

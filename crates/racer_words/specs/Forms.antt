@@ -22,3 +22,4 @@ label_view label.Summaries = uses.Summaries
 label_view label.History = uses.History
 label_view label.Containers = uses.Containers
 label_view label.Edits = uses.Edits
+label_view label.Typed = uses.Typed

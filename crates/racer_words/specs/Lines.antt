@@ -15,6 +15,7 @@ line_view l = record {
   summaries = l.summaries;
   history = l.history;
   containers = l.containers;
+  typed = l.typed;
 }
 
 abbrev pub flag_text : Bool → Word
@@ -31,3 +32,4 @@ pub record IsOf (rows : List Row) (l : Line) : Type 0 where
   pub summaries : (b : Bool) → one_of (codes "summaries") rows ≡ Some (flag_text b) → l.summaries ≡ b
   pub history : (b : Bool) → one_of (codes "history") rows ≡ Some (flag_text b) → l.history ≡ b
   pub containers : (b : Bool) → one_of (codes "containers") rows ≡ Some (flag_text b) → l.containers ≡ b
+  pub typed : (b : Bool) → one_of (codes "typed") rows ≡ Some (flag_text b) → l.typed ≡ b

@@ -16,6 +16,7 @@ wanted_of wanted =
       workers = wanted.workers;
       history = wanted.history;
       containers = wanted.containers;
+      typed = wanted.typed;
     }
 
 abbrev pub replay_of : WantedReplay → words.WantedReplay

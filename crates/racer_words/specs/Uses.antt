@@ -18,6 +18,7 @@ pub data Label : Type 0 where
   History : Label
   Containers : Label
   Edits : Label
+  Typed : Label
 
 abbrev pub name_of : Label → Word
 name_of Folder = codes "FOLDER"
@@ -29,17 +30,19 @@ name_of Summaries = codes "summaries"
 name_of History = codes "history"
 name_of Containers = codes "containers"
 name_of Edits = codes "edits"
+name_of Typed = codes "typed"
 
 abbrev pub takes_value : Label → Bool
 takes_value Json = false
 takes_value Summaries = false
 takes_value History = false
 takes_value Containers = false
+takes_value Typed = false
 takes_value _ = true
 
 -- all that have a name
 abbrev pub labels : List Label
-labels = Workers ∷ Replay ∷ Made ∷ Edits ∷ Json ∷ Summaries ∷ History ∷ Containers ∷ []
+labels = Workers ∷ Replay ∷ Made ∷ Edits ∷ Json ∷ Summaries ∷ History ∷ Containers ∷ Typed ∷ []
 
 abbrev pub label_of : Word → Option Label
 label_of name = find (λ l. bytes_eq (name_of l) name) labels
@@ -127,6 +130,7 @@ pub record Line : Type 0 where
   pub summaries : Bool
   pub history : Bool
   pub containers : Bool
+  pub typed : Bool
 
 abbrev pub line_of : List Use → Line
 line_of us = record {
@@ -139,6 +143,7 @@ line_of us = record {
   summaries = has Summaries us;
   history = has History us;
   containers = has Containers us;
+  typed = has Typed us;
 }
 
 abbrev pub line : List Word → Option Line

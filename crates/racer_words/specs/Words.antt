@@ -9,15 +9,18 @@ use Rattle.race_report_modes.specs.declared.Format.TheVariants.{Text, Json as As
 use Rattle.race_report_modes.specs.declared.Mode.{Mode}
 use Rattle.racer_words_numbers.specs.Numbers.{up_to, workers_of}
 use Rattle.racer_words.specs.Uses.{Word, Line, Label, Folder, Workers, Json, Summaries, History, labels, name_of, line}
-use Rattle.racer_words.specs.Uses.{Replay as LabelReplay, Made as LabelMade, Containers as LabelContainers, Edits as LabelEdits}
+use Rattle.racer_words.specs.Uses.{Replay as LabelReplay, Made as LabelMade, Containers as LabelContainers, Typed}
+use Rattle.racer_words.specs.Uses.{Edits as LabelEdits}
 
--- a report on the folder of this name, by so many workers, with their history or without, where containers are this
+-- a report on the folder of this name, by so many workers, with their history or without, with the typings of its
+-- classes or without, where containers are this
 pub record WantedReport : Type 0 where
   pub folder : Word
   pub mode : Mode
   pub workers : ℕ
   pub history : Bool
   pub containers : Containers
+  pub typed : Bool
 
 -- the replay of the witness in this file of the folder of this name, where containers are this
 pub record WantedReplay : Type 0 where
@@ -56,7 +59,7 @@ pub data Form : Type 0 where
 
 -- the table: what may stand on a command line of each form
 abbrev pub stands_on : Form → List Label
-stands_on ForReport = Folder ∷ Workers ∷ Json ∷ Summaries ∷ History ∷ LabelContainers ∷ []
+stands_on ForReport = Folder ∷ Workers ∷ Json ∷ Summaries ∷ History ∷ LabelContainers ∷ Typed ∷ []
 stands_on ForReplay = Folder ∷ LabelReplay ∷ LabelContainers ∷ []
 stands_on ForMade = LabelMade ∷ Workers ∷ []
 stands_on ForEdits = Folder ∷ LabelEdits ∷ []
@@ -77,6 +80,7 @@ is_given line Summaries = line.summaries
 is_given line History = line.history
 is_given line LabelContainers = line.containers
 is_given line LabelEdits = is_some line.edits
+is_given line Typed = line.typed
 
 abbrev pub may_stand : Form → Label → Bool
 may_stand form label = list_any (λ l. bytes_eq (name_of l) (name_of label)) (stands_on form)
@@ -107,6 +111,7 @@ report_by line folder workers =
       workers = workers;
       history = line.history;
       containers = containers_of line.containers;
+      typed = line.typed;
     })
 
 -- a report on the folder

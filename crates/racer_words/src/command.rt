@@ -15,7 +15,7 @@ use std::alloc::Global;
 const OPTIONS: &[&str] = &["workers", "replay", "made", "edits"];
 
 /// The flags.
-const FLAGS: &[&str] = &["json", "summaries", "history", "containers"];
+const FLAGS: &[&str] = &["json", "summaries", "history", "containers", "typed"];
 
 /// Puts options or flags of these names behind the arguments that there are.
 fn push_named<'a>(
@@ -33,7 +33,7 @@ fn push_named<'a>(
     Ok(())
 }
 
-/// Puts an optional folder, four options with a value and four flags behind the arguments that there are.
+/// Puts an optional folder, four options with a value and five flags behind the arguments that there are.
 fn push_arguments<'a>(alloc: Global, arguments: &mut Vec<Arg<'a>>) -> Result<(), Memory>
     ensures { OnOk result (spec.rules_of arguments.new.items ≡ spec.with_all (spec.rules_of arguments.old.items)) }
 {

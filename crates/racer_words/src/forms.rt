@@ -28,6 +28,7 @@ pub enum Label {
     History,
     Containers,
     Edits,
+    Typed,
 }
 
 /// All of them.
@@ -41,6 +42,7 @@ const LABELS: &[Label] = &[
     Label::Summaries,
     Label::History,
     Label::Containers,
+    Label::Typed,
 ];
 
 /// The form of a line, by the option that stands there for it.
@@ -68,6 +70,7 @@ fn is_given(line: &GivenLine<'_>, label: Label) -> bool
         Label::History => line.history,
         Label::Containers => line.containers,
         Label::Edits => line.edits.is_some(),
+        Label::Typed => line.typed,
     }
 }
 

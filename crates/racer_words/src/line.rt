@@ -25,6 +25,7 @@ pub struct GivenLine<'a> {
     pub summaries: bool,
     pub history: bool,
     pub containers: bool,
+    pub typed: bool,
 }
 
 impl GivenLine<'_> {
@@ -67,6 +68,7 @@ fn line_of<'a>(matches: &ArgMatches<'a>) -> GivenLine<'a>
         summaries: matches.get_flag("summaries"),
         history: matches.get_flag("history"),
         containers: matches.get_flag("containers"),
+        typed: matches.get_flag("typed"),
     }
 }
 

@@ -35,6 +35,7 @@ fn report(alloc: Global, folder: &str, line: &GivenLine<'_>) -> Result<Option<Re
         workers,
         history: line.history,
         containers: line.containers(),
+        typed: line.typed,
     })))
 }
 
@@ -106,9 +107,9 @@ fn asked_by(alloc: Global, line: &GivenLine<'_>) -> Result<Option<Request>, Memo
 }
 
 /// What the words behind the program's name ask for, or nothing where they are no command line: `FOLDER`, with
-/// `--workers N`, `--json`, `--summaries`, `--history`, `--containers` in any order; `FOLDER --replay NAME`, with
-/// `--containers`; `--made N`, with `--workers N`; or `FOLDER --edits NAME` alone. A value may also stand behind `=`, and
-/// behind `--` a word that begins with a minus sign is a folder.
+/// `--workers N`, `--json`, `--summaries`, `--history`, `--containers`, `--typed` in any order; `FOLDER --replay NAME`,
+/// with `--containers`; `--made N`, with `--workers N`; or `FOLDER --edits NAME` alone. A value may also stand behind `=`,
+/// and behind `--` a word that begins with a minus sign is a folder.
 pub fn read_words(alloc: Global, words: &[String]) -> Result<Option<Request>, Memory>
     ensures { IfOk result (λ r. option_map seen r ≡ request_of (map string_bytes words.now)) }
 {

@@ -14,7 +14,8 @@ pub enum Request {
     EditsOf(WantedEdits),
 }
 
-/// A report on the folder of this name, by 1 to 64 workers, with their history or without, where containers are this.
+/// A report on the folder of this name, by 1 to 64 workers, with their history or without, with the typings of its
+/// classes or without, where containers are this.
 #[derive(Drop)]
 pub struct WantedReport {
     pub folder: Text,
@@ -22,6 +23,7 @@ pub struct WantedReport {
     pub workers: u32,
     pub history: bool,
     pub containers: Containers,
+    pub typed: bool,
     pub ghost in_range: { (0 < workers) × (workers ≤ 64) },
 }
 

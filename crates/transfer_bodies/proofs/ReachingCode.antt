@@ -303,6 +303,7 @@ pub is-within : (height to : ℕ) (code : Tree) → height_after code height ≡
 is-within height to code high none =
     record {
       high = ap is_some high;
+      none = none;
       effects = λ g locked us s long. flow-above g code locked us height to s none high long;
       end = λ g locked k h us s long.
           resumed-plain g code locked k h (above us s) none

@@ -29,9 +29,11 @@ pub record LeadsFrom (from to : ℕ) (code : Tree) : Type 0 where
   pub height : height_after code from ≡ Some to
   pub none : loops code ≡ 0
 
--- the code finds the same over so many values as over more that begin with these, and leaves the others as they are
+-- the code has no loop, finds the same over so many values as over more that begin with these, and leaves the others as
+-- they are
 pub record IsWithin (height : ℕ) (code : Tree) : Type 0 where
   pub high : is_some (height_after code height) ≡ true
+  pub none : loops code ≡ 0
   pub effects : (g : FlowContext) (locked : Bool) (under : List Value) (s : State) → length s.stack ≡ height →
       flow g code locked (above under s) ≡ all_above under (flow g code locked s)
   pub end : (g : FlowContext) (locked : Bool) (k : ℕ) (h : Heads) (under : List Value) (s : State) →

@@ -5,3 +5,4 @@ pub mod FoundPrefixes
 pub mod WarningMarks
 pub mod ReplayedRuns
 pub mod MarkTurns
+pub mod TypedMarks

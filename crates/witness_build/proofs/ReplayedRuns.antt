@@ -93,7 +93,7 @@ if-confirmed P (Blocked thread at) mark is holds = tt
 if-confirmed P (Confirmed objects legs) mark is holds = holds objects legs (sym is)
 
 -- the mark at a place is that of the warning there
-mark-there : (core : Core) (found : List Warning) (marks : List Mark) →
+pub mark-there : (core : Core) (found : List Warning) (marks : List Mark) →
     map said_by marks ≡ map (warning_mark core) found → (k : ℕ) (w : Warning) (mark : Mark) → slice_get found k ≡ Some w
     → slice_get marks k ≡ Some mark →
     said_by mark ≡ warning_mark core w

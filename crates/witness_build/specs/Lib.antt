@@ -1,3 +1,4 @@
 -- A contract of a public call rests on this: the list of files.
 pub mod Replayed
 pub mod ShortestPrefix
+pub mod TypedMarks

@@ -7,6 +7,7 @@ ghost use Rattle.witness_build_laws.specs.Warned.{warning_mark};
 ghost use Rattle.witness_build_walks.specs.Told.{AreWalks};
 ghost use Rattle.core_ways_sites.specs.Known.{IsKnown};
 ghost use Rattle.witness_build.specs.Replayed.{AreRight, DoRace, HaveConfirmed};
+ghost use Rattle.witness_build.specs.TypedMarks.{HaveNeverBlocked};
 
 use crate::marking::mark_from;
 use access_domain::Outcomes;
@@ -77,6 +78,7 @@ pub fn marks_of(
         (λ w objects legs. AreRight (core program.now) w objects) found.now marks.items) }
     ensures race { IfOk result (λ marks. HaveConfirmed (core program.now) (DoRace (core program.now)) found.now
         marks.items) }
+    ensures typed { IfOk result (λ marks. HaveNeverBlocked (core program.now) found.now marks.items) }
 {
     let mut known = SiteWays::new(alloc);
     let mut walks = Walks::new(alloc);

@@ -1,6 +1,7 @@
 use Rattle.std.proofs.Common.{◌∙◌, sym, arith}
 use Rattle.java_lexer.proofs.Calm.{white_front, word_front}
 use Rattle.java_lexer.proofs.JavaScans.{number_front, sign_front, no_token}
+use Rattle.java_lexer.proofs.Marks.{mark_front}
 use Rattle.java_lexer.proofs.scan.next_piece.Goals as goal
 
 pub returns-then-is_white : goal.returns-then-is_white
@@ -11,6 +12,10 @@ pub returns-then-is_letter : goal.returns-then-is_letter
 returns-then-is_letter c =
     rw (c.word_kind.ensures, c.split_at.ensures.front, c.word_len-len.ensures.gives, c.in-Some.ensures.cases.0)
     (word_front c.in-Some.first.now c.in-Some.rest.now (sym c.is_letter.ensures ∙ c.if-is_letter.true))
+
+pub returns-then-is_mark : goal.returns-then-is_mark
+returns-then-is_mark c = rw c.in-Some.ensures.cases.0
+    (mark_front c.in-Some.first.now c.in-Some.rest.now (sym c.is_mark.ensures ∙ c.if-is_mark.true))
 
 pub returns-then-begins_number : goal.returns-then-begins_number
 returns-then-begins_number c =

@@ -25,10 +25,11 @@ returns c =
     let summaries = local (flag_rule (codes "summaries")) in
     let history = local (flag_rule (codes "history")) in
     let containers = local (flag_rule (codes "containers")) in
+    let typed = local (flag_rule (codes "typed")) in
     let with_options = λ (rules : List (Rule × Bool)). rules ++ workers ∷ replay ∷ made ∷ edits ∷ [] in
-    let with_flags = λ (rules : List (Rule × Bool)). rules ++ json ∷ summaries ∷ history ∷ containers ∷ [] in
+    let with_flags = λ (rules : List (Rule × Bool)). rules ++ json ∷ summaries ∷ history ∷ containers ∷ typed ∷ [] in
     on_ok_weaker c.push_named-2.result
     (λ is. is ∙ ap with_flags (c.in_ok-push_named.ensures ∙ ap with_options folder)
     ∙ one_by_one (rules_of old ++ local folder_rule ∷ []) workers replay made edits json summaries
-    history containers)
+    history containers typed)
     c.push_named-2.ensures

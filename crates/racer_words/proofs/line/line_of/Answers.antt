@@ -21,4 +21,6 @@ returns c =
           (one_text-rows found (codes "history") ∙ e);
       containers = λ b e. flag_is b c.get_flag-4.result _ c.get_flag-4.ensures.value c.get_flag-4.ensures.other
           (one_text-rows found (codes "containers") ∙ e);
+      typed = λ b e. flag_is b c.get_flag-5.result _ c.get_flag-5.ensures.value c.get_flag-5.ensures.other
+          (one_text-rows found (codes "typed") ∙ e);
     }

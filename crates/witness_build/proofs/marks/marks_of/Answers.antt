@@ -1,5 +1,6 @@
 use Rattle.core_code.specs.Program.{core}
 use Rattle.witness_build.proofs.ReplayedRuns.{marked-race, marked-right}
+use Rattle.witness_build.proofs.TypedMarks.{marked-never-blocked}
 use Rattle.witness_build.proofs.marks.marks_of.Goals as goal
 
 pub marks_from-marks-requires-clause-known : goal.marks_from-marks-requires-clause-known
@@ -15,3 +16,7 @@ returns-clause-objects c =
 pub returns-clause-race : goal.returns-clause-race
 returns-clause-race c =
     marked-race c.args.program.now c.args.found.now c.marks_from-marks.result c.marks_from-marks.ensures
+
+pub returns-clause-typed : goal.returns-clause-typed
+returns-clause-typed c =
+    marked-never-blocked c.args.program.now c.args.found.now c.marks_from-marks.result c.marks_from-marks.ensures

@@ -1,0 +1,2 @@
+-- A contract of a public call rests on this: the list of files.
+pub mod Lines

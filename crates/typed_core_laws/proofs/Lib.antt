@@ -1,0 +1,10 @@
+pub mod TypedPlaces
+pub mod TypedReads
+pub mod TypedInner
+pub mod TypedCalls
+pub mod TypedCode
+pub mod TypedReached
+pub mod ReadWays
+pub mod TypedRuns
+pub mod TypedChains
+pub mod TypedWarnings

@@ -1,0 +1,3 @@
+-- A contract of a public call rests on this: the list of files.
+pub mod Promise
+pub mod TypedValues

@@ -1,0 +1,4 @@
+//! Laws of typed classes.
+#![tactic(auto)]
+
+pub mod laws;
